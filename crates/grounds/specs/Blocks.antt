@@ -17,11 +17,11 @@ use Rattle.grounds.specs.Numbers.{page, mark-length, page-words, rest-words, f
 use Rattle.grounds.specs.Lists.{every}
 
 pub record Limits : Type 0 where
-  pub events-can : ℕ → Bool     -- which events the keeper can do, by their numbers; 4 stands for large pieces
+  pub events-can : ℕ → Bool  -- which events the keeper can do, by their numbers; 4 stands for large pieces
   pub pages : ℕ
-  pub classes : List ℕ          -- rising
-  pub rests : ℕ                 -- how many of those given back rest
-  pub marks : List ℕ            -- the bytes of the mark
+  pub classes : List ℕ  -- rising
+  pub rests : ℕ  -- how many of those given back rest
+  pub marks : List ℕ  -- the bytes of the mark
 
 abbrev pub ground-size : Limits → ℕ
 ground-size l = l .pages * page

@@ -33,7 +33,7 @@ use Rattle.grounds.specs.Events.{event-number, no-event}
 
 pub record State : Type 0 where
   pub out : List Block
-  pub resting : List Block      -- the one that was given back last comes first
+  pub resting : List Block  -- the one that was given back last comes first
   pub spoilt : List Block
 
 abbrev pub new-state : State

@@ -38,12 +38,12 @@ pub record Good-limits (can : ℕ → Bool) (l : Limits) : Type 0 where
 
 -- memory and ground come first, as they are lent; `opens` and `prepared` are of an opening, which does not write on the ground
 pub record Program : Type 0 where
-  pub opened : Limits → List ℕ                           -- memory after an opening that is taken
-  pub opens : List ℕ → List ℕ → Limits → Answer          -- what an opening answers
-  pub prepared : List ℕ → List ℕ → Limits → List ℕ       -- memory after any opening
-  pub answers : List ℕ → List ℕ → Event → Answer         -- what an event is answered
-  pub called : List ℕ → List ℕ → Event → List ℕ          -- memory after it
-  pub leaves : List ℕ → List ℕ → Event → List ℕ          -- the ground after it
+  pub opened : Limits → List ℕ  -- memory after an opening that is taken
+  pub opens : List ℕ → List ℕ → Limits → Answer  -- what an opening answers
+  pub prepared : List ℕ → List ℕ → Limits → List ℕ  -- memory after any opening
+  pub answers : List ℕ → List ℕ → Event → Answer  -- what an event is answered
+  pub called : List ℕ → List ℕ → Event → List ℕ  -- memory after it
+  pub leaves : List ℕ → List ℕ → Event → List ℕ  -- the ground after it
 
 pub record World : Type 0 where
   pub ground : List ℕ
@@ -55,11 +55,11 @@ new-world f l = record { ground = replicate (ground-size l) 0; memory = f .opene
 
 abbrev pub asked : Program → Limits → World → Event → World
 asked f l w e =
-    record
-      { ground = f .leaves (w .memory) (w .ground) e
-      ; memory = f .called (w .memory) (w .ground) e
-      ; state = after l (w .state) e (f .answers (w .memory) (w .ground) e)
-      }
+    record {
+      ground = f .leaves (w .memory) (w .ground) e;
+      memory = f .called (w .memory) (w .ground) e;
+      state = after l (w .state) e (f .answers (w .memory) (w .ground) e);
+    }
 
 abbrev pub written : World → ℕ → List ℕ → World
 written w a bs = record { ground = over a bs (w .ground); memory = w .memory; state = w .state }

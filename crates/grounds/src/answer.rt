@@ -2,6 +2,30 @@
 ghost use Rattle.grounds.specs.Events.{answer-number, refusal-number};
 ghost use mathlib.Core.Path.{_≡_};
 
+// The number that each answer goes by.
+pub const REFUSED: u8 = 0;
+
+pub const DONE: u8 = 1;
+
+pub const PLACE: u8 = 2;
+
+pub const NUMBER: u8 = 3;
+
+pub const OVERRUN: u8 = 4;
+
+pub const HARMED: u8 = 5;
+
+pub const WHOLE: u8 = 6;
+
+// The number that each refusal goes by.
+pub const NO_EVENT: u64 = 1;
+
+pub const OUT_OF_RANGE: u64 = 2;
+
+pub const NOT_OUT: u64 = 3;
+
+pub const NO_ROOM: u64 = 4;
+
 // Why an event is turned away; the first that holds is told.
 #[derive(Clone, Copy, Debug, PartialEq, Eq)]
 pub enum Refusal {
@@ -33,32 +57,30 @@ pub enum Answer {
 }
 
 impl Refusal {
-    // The number that a refusal goes by.
     pub fn number(self) -> u64
         ensures { λ r. ⌜ r ≡ refusal-number self ⌝ }
     {
         match self {
-            Refusal::NoEvent => 1,
-            Refusal::OutOfRange => 2,
-            Refusal::NotOut => 3,
-            Refusal::NoRoom => 4,
+            Refusal::NoEvent => NO_EVENT,
+            Refusal::OutOfRange => OUT_OF_RANGE,
+            Refusal::NotOut => NOT_OUT,
+            Refusal::NoRoom => NO_ROOM,
         }
     }
 }
 
 impl Answer {
-    // The number that an answer goes by.
     pub fn number(self) -> u8
         ensures { λ r. ⌜ r ≡ answer-number self ⌝ }
     {
         match self {
-            Answer::Refused(_, _) => 0,
-            Answer::Done => 1,
-            Answer::Place(_) => 2,
-            Answer::Number(_) => 3,
-            Answer::Overrun(_) => 4,
-            Answer::Harmed(_) => 5,
-            Answer::Whole => 6,
+            Answer::Refused(_, _) => REFUSED,
+            Answer::Done => DONE,
+            Answer::Place(_) => PLACE,
+            Answer::Number(_) => NUMBER,
+            Answer::Overrun(_) => OVERRUN,
+            Answer::Harmed(_) => HARMED,
+            Answer::Whole => WHOLE,
         }
     }
 }

@@ -2,6 +2,17 @@
 ghost use Rattle.grounds.specs.Events.{event-number};
 ghost use mathlib.Core.Path.{_≡_};
 
+// The number that each event goes by.
+pub const GET: u8 = 0;
+
+pub const GIVE: u8 = 1;
+
+pub const SIZE: u8 = 2;
+
+pub const LOOK: u8 = 3;
+
+pub const GARBLED: u8 = 255;
+
 #[derive(Clone, Copy, Debug, PartialEq, Eq)]
 pub enum Event {
     // a piece of so many bytes
@@ -17,16 +28,15 @@ pub enum Event {
 }
 
 impl Event {
-    // The number that an event goes by.
     pub fn number(self) -> u8
         ensures { λ r. ⌜ r ≡ event-number self ⌝ }
     {
         match self {
-            Event::Get(_) => 0,
-            Event::Give(_) => 1,
-            Event::Size(_) => 2,
-            Event::Look => 3,
-            Event::Garbled(_) => 255,
+            Event::Get(_) => GET,
+            Event::Give(_) => GIVE,
+            Event::Size(_) => SIZE,
+            Event::Look => LOOK,
+            Event::Garbled(_) => GARBLED,
         }
     }
 }

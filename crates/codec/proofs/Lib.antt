@@ -1,0 +1,4 @@
+mod Numbers
+mod Events
+mod Answers
+mod OneReading
