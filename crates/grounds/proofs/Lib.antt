@@ -1,1 +1,15 @@
 pub mod Lists
+pub mod Parts
+pub mod Bags
+pub mod Found
+pub mod Classes
+pub mod Apart
+pub mod Happened
+pub mod Laid
+pub mod Kept
+pub mod Room
+pub mod Gets
+pub mod Gives
+pub mod Spoils
+pub mod Changes
+pub mod NoTrouble

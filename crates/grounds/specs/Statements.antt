@@ -24,10 +24,19 @@ use Rattle.grounds.specs.Worlds.{Good-limits, Program, World, asked, Lived, Li
 
 -- ---- nobody is given what another has
 
--- it lies in the ground, begins at a multiple of the grain, and takes what the rule says, which has what was asked for and the mark
+-- a small piece begins on its page at a multiple of what it takes, and ends on that page; a large one begins at a page
+abbrev pub sits : Limits → Block → Bool
+sits l b =
+    cond
+    (eqb (class-of (b .size) (l .classes)) 0)
+    (eqb (b .at % page) 0)
+    (eqb ((b .at % page) % b .room) 0 && leb (b .at % page + b .room) page)
+
+-- it lies in the ground, begins at a multiple of the grain, has room for what was asked for and the mark, and takes what the rule says
 abbrev pub is-laid : Limits → Block → Bool
 is-laid l b =
-    ((leb (b .at + b .room) (ground-size l) && eqb (b .at % grain) 0) && leb (b .size + mark-length) (b .room)) && eqb (b .room) (room-for l (b .size))
+    (((leb (b .at + b .room) (ground-size l) && eqb (b .at % grain) 0) && leb (b .size + mark-length) (b .room)) && eqb (b .room) (room-for l (b .size)))
+    && sits l b
 
 -- where two pieces touch one page, they take the same, and neither is large
 abbrev pub share-well : Limits → ℕ → Block → Block → Bool

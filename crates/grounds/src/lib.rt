@@ -2,3 +2,4 @@
 pub mod answer;
 pub mod block;
 pub mod event;
+pub mod theorems;
