@@ -70,6 +70,10 @@ get-taken l s n h =
     let parts = and-parts (ltb 0 n) (leb n (ground-size l)) range in
     record { some = ltb-true 0 n (parts .0); fits = leb-true n (ground-size l) (parts .1) }
 
+pub get-room : (l : Limits) (s : State) (n : ℕ) → turned l s (Get n) ≡ None → some-place l n (all-blocks s) (ground-size l) ≡ true
+unfolding turned-by
+get-room l s n h = none-cond (some-place l n (all-blocks s) (ground-size l)) None NoRoom (none-cond _ (turned-by l s (Get n)) OutOfRange h .1) .0
+
 pub give-taken : (l : Limits) (s : State) (a : ℕ) → turned l s (Give a) ≡ None → (b : Block) × (find a (s .out) ≡ Some b)
 unfolding turned-by
 give-taken l s a h = some-found a (s .out) (none-cond (isSome (find a (s .out))) None NotOut (none-cond _ (turned-by l s (Give a)) OutOfRange h .1) .0)
@@ -83,13 +87,21 @@ out-found s a b h = ap (λ (o : Option Block). valueOr o (record { at = 0; size 
 
 -- ---- a refusal changes nothing
 
-after-refused : (l : Limits) (s : State) (e : Event) (r : Refusal) (a : ℕ) → after l s e (Refused r a) ≡ s
+pub after-refused : (l : Limits) (s : State) (e : Event) (r : Refusal) (a : ℕ) → after l s e (Refused r a) ≡ s
 unfolding after
 after-refused l s (Get n) r a = refl
 after-refused l s (Give b) r a = refl
 after-refused l s (Size b) r a = refl
 after-refused l s Look r a = refl
 after-refused l s (Garbled n) r a = refl
+
+pub ground-refused : (l : Limits) (s : State) (g : List ℕ) (e : Event) (r : Refusal) (a : ℕ) → ground-after l s g e (Refused r a) ≡ g
+unfolding ground-after
+ground-refused l s g (Get n) r a = refl
+ground-refused l s g (Give b) r a = refl
+ground-refused l s g (Size b) r a = refl
+ground-refused l s g Look r a = refl
+ground-refused l s g (Garbled n) r a = refl
 
 module _ (l : Limits) (s : State) (g : List ℕ) where
   give-happened : (a : ℕ) (b : Block) → find a (s .out) ≡ Some b → marked l g (out-at s a) ≡ true →

@@ -1,4 +1,5 @@
 pub mod Lists
+pub mod First
 pub mod Parts
 pub mod Bags
 pub mod Found
@@ -13,3 +14,8 @@ pub mod Gives
 pub mod Spoils
 pub mod Changes
 pub mod NoTrouble
+pub mod Fits
+pub mod LowestRight
+pub mod Model
+pub mod OneAnswer
+pub mod Examples

@@ -8,3 +8,6 @@ pub mod Lowest
 pub mod Worlds
 pub mod Promises
 pub mod Statements
+pub mod OneAnswer
+pub mod Model
+pub mod Examples

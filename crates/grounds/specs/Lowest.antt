@@ -2,8 +2,8 @@
 -- was changed or, if none was, the lowest byte that is harmed. Then the answer is a function of what was asked and written. Assumes nothing.
 --     lowest-place l s n      the lowest place where a piece of n bytes may be; the ground's length where there is none
 --     the-answer l s g e      what is answered to e
-use mathlib.Core.Bool.{Bool, cond, not, _&&_}
-use mathlib.Core.List.{List, [], _∷_}
+use mathlib.Core.Bool.{cond, not, _&&_}
+use mathlib.Core.List.{List}
 use Prim.Native.Nat.{ℕ}
 use lib.Dec.{ltb, eqb}
 use Rattle.std.specs.declared.option.Option.{Option}

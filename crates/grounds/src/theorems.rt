@@ -3,10 +3,13 @@
 ghost use Prim.Native.Nat.{ℕ};
 ghost use mathlib.Core.Bool.{Bool};
 ghost use Rattle.grounds.specs.Worlds.{Program};
-ghost use Rattle.grounds.specs.Promises.{Right};
+ghost use Rattle.grounds.specs.Promises.{Answers-fit, Right, Lowest};
 ghost use Rattle.grounds.specs.Statements.{Nobody-elses, Ground-keeps, No-trouble, Got-is-zero, Out-keeps, Back-once, Rests};
 ghost use Rattle.grounds.specs.Statements.{Room-for-many, Little-more, Nothing-leaks, Spoilt-stays, Spoilt-found, Mark-tells};
 ghost use Rattle.grounds.specs.Statements.{Found-exactly, Harm-is-there, Nothing-else};
+ghost use Rattle.grounds.specs.OneAnswer.{One-answer};
+ghost use Rattle.grounds.specs.Model.{model};
+ghost use Rattle.grounds.specs.Examples.{Premises-met};
 
 pub fn nobody_elses()
     ensures { λ _. ⌜ ((can : ℕ → Bool) (f : Program) → Right can f → Nobody-elses can f) ⌝ }
@@ -14,6 +17,10 @@ pub fn nobody_elses()
 
 pub fn ground_keeps()
     ensures { λ _. ⌜ ((can : ℕ → Bool) (f : Program) → Right can f → Ground-keeps can f) ⌝ }
+{}
+
+pub fn answers_fit()
+    ensures { λ _. ⌜ ((can : ℕ → Bool) (f : Program) → Right can f → Answers-fit can f) ⌝ }
 {}
 
 pub fn no_trouble()
@@ -70,4 +77,21 @@ pub fn harm_is_there()
 
 pub fn nothing_else()
     ensures { λ _. ⌜ ((can : ℕ → Bool) (f : Program) → Right can f → Nothing-else can f) ⌝ }
+{}
+
+// And of the model: that the promises can be kept, that under the rule of the lowest place there is one answer, and that the premises can be met.
+pub fn model_is_right()
+    ensures { λ _. ⌜ ((can : ℕ → Bool) → Right can (model can)) ⌝ }
+{}
+
+pub fn model_is_lowest()
+    ensures { λ _. ⌜ ((can : ℕ → Bool) → Lowest can (model can)) ⌝ }
+{}
+
+pub fn one_answer()
+    ensures { λ _. ⌜ ((can : ℕ → Bool) → One-answer can) ⌝ }
+{}
+
+pub fn premises_met()
+    ensures { λ _. ⌜ Premises-met ⌝ }
 {}
