@@ -102,7 +102,7 @@ out-keeps can f right l w e b good lived readable found other =
 -- ---- a give back
 
 -- what begins where a piece begins is that piece
-none-left : (l : Limits) (s : State) (a : ℕ) (b : Block) → Laid-out l (all-blocks s) → find a (s .out) ≡ Some b → find a (without a (s .out)) ≡ None
+pub none-left : (l : Limits) (s : State) (a : ℕ) (b : Block) → Laid-out l (all-blocks s) → find a (s .out) ≡ Some b → find a (without a (s .out)) ≡ None
 none-left l s a b out found =
     let at = find-at a (s .out) b found in
     let first = found-first l s a b out found in

@@ -91,7 +91,7 @@ out-front P bag a bs cs b h p =
 
 -- ---- a piece that is got
 
-multiples : (x c : ℕ) → c % grain ≡ 0 → x % c ≡ 0 → x % grain ≡ 0
+pub multiples : (x c : ℕ) → c % grain ≡ 0 → x % c ≡ 0 → x % grain ≡ 0
 multiples x c h k =
     let whole : x ≡ x / c * (c / grain) * grain
     = sym (div-add-mod' x c)

@@ -1,0 +1,4 @@
+-- To be read in this order.
+pub mod Texts
+pub mod Words
+pub mod Reading

@@ -1,0 +1,3 @@
+// Lines as they are read and printed, and lines that are refused, on examples.
+#[cfg(test)]
+mod tests;
