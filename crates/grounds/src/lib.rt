@@ -2,4 +2,5 @@
 pub mod answer;
 pub mod block;
 pub mod event;
+pub mod numbers;
 pub mod theorems;

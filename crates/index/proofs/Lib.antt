@@ -1,0 +1,5 @@
+pub mod Least
+pub mod Change
+pub mod Lowest
+pub mod Cleared
+pub mod Elsewhere
