@@ -6,3 +6,5 @@ pub mod Places
 pub mod Runs
 pub mod Outs
 pub mod Looks
+pub mod TableRight
+pub mod Keeping

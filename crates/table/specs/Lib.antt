@@ -3,4 +3,5 @@ pub mod Table
 pub mod Stands
 pub mod Runs
 pub mod Looks
+pub mod Answers
 pub mod Theorems

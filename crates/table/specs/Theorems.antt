@@ -7,17 +7,19 @@ use Prim.Native.Nat.{ℕ, _/_, _<_}
 use lib.Dec.{ltb}
 use Rattle.std.specs.declared.option.Option.the-variants.{Some, None}
 use Rattle.grounds.specs.declared.block.Block.{Block}
+use Rattle.grounds.specs.declared.event.Event.{Event}
 use Rattle.grounds.specs.declared.event.Event.the-variants.{Get, Give}
 use Rattle.grounds.specs.declared.answer.Answer.the-variants.{Done, Place, Overrun, Harmed}
 use Rattle.grounds.specs.Numbers.{page}
 use Rattle.grounds.specs.Blocks.{Limits, ground-size, class-of, large, may-be, some-place}
-use Rattle.grounds.specs.Grounds.{State, new-state, all-blocks, find, got-at, mark-place, after, is-inside}
-use Rattle.grounds.specs.Lowest.{lowest-place, lowest-overrun, lowest-harm}
+use Rattle.grounds.specs.Grounds.{State, new-state, all-blocks, find, got-at, mark-place, after, ground-after, is-inside}
+use Rattle.grounds.specs.Lowest.{lowest-place, lowest-overrun, lowest-harm, the-answer}
 use Rattle.grounds.specs.Worlds.{Good-limits}
 use Rattle.table.specs.Table.{Table, new-table, placed, sized, marked-spoilt, rested, found-small}
 use Rattle.table.specs.Stands.{Stands}
 use Rattle.table.specs.Runs.{found-run, found}
 use Rattle.table.specs.Looks.{owned, lowest-changed, lowest-stray}
+use Rattle.table.specs.Answers.{table-answer, table-after, table-ground}
 
 -- At first there are no pieces.
 abbrev pub New-stands : Type 0
@@ -88,3 +90,13 @@ Changed-found = (l : Limits) (t : Table) (s : State) (g : List ℕ) → Stands l
 -- So is the lowest byte that is harmed.
 abbrev pub Stray-found : Type 0
 Stray-found = (l : Limits) (t : Table) (s : State) (g : List ℕ) → Stands l t s → lowest-stray l t g ≡ lowest-harm l s g
+
+-- All of it: where a table stands for the pieces, what the table answers is the answer under the rule of the lowest place, the table after it stands
+-- for the pieces after it, and the ground is as it should be.
+pub record Table-step (l : Limits) (t : Table) (s : State) (g : List ℕ) (e : Event) : Type 0 where
+  pub answer : table-answer l t g e ≡ the-answer l s g e
+  pub stands : Stands l (table-after l t e (table-answer l t g e)) (after l s e (table-answer l t g e))
+  pub ground : table-ground l t g e (table-answer l t g e) ≡ ground-after l s g e (table-answer l t g e)
+
+abbrev pub Table-right : Type 0
+Table-right = (can : ℕ → Bool) (l : Limits) (t : Table) (s : State) (g : List ℕ) (e : Event) → Good-limits can l → Stands l t s → Table-step l t s g e

@@ -1,6 +1,6 @@
 // What a keeper has to know of a ground, and that it suffices. There is no code here: the table is in specs/, and each theorem is the contract of a
 // function that has nothing to do.
-ghost use Rattle.table.specs.Theorems.{New-stands, Get-stands, Spoil-stands, Overrun-stands, Rest-stands, Small-found, Out-known, Run-found, Place-found, Room-known, Owned-known, Changed-found, Stray-found};
+ghost use Rattle.table.specs.Theorems.{Table-right, New-stands, Get-stands, Spoil-stands, Overrun-stands, Rest-stands, Small-found, Out-known, Run-found, Place-found, Room-known, Owned-known, Changed-found, Stray-found};
 
 pub fn new_stands()
     ensures { λ _. ⌜ New-stands ⌝ }
@@ -52,4 +52,8 @@ pub fn changed_found()
 
 pub fn stray_found()
     ensures { λ _. ⌜ Stray-found ⌝ }
+{}
+
+pub fn table_right()
+    ensures { λ _. ⌜ Table-right ⌝ }
 {}
