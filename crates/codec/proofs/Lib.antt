@@ -1,4 +1,4 @@
-mod Numbers
-mod Events
-mod Answers
-mod OneReading
+pub mod Numbers
+pub mod Events
+pub mod Answers
+pub mod OneReading

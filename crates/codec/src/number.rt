@@ -3,7 +3,8 @@ ghost use lib.ListN.{length};
 ghost use mathlib.Core.List.{[], _∷_, _++_};
 ghost use mathlib.Core.Path.{_≡_};
 ghost use Rattle.std.specs.Options.{Cases};
-ghost use Rattle.codec.specs.Bytes.{number-length, number-of, number-bytes};
+ghost use Rattle.codec.specs.Bytes.{number-length, number-bytes};
+ghost use Rattle.codec.specs.Bytes.{number-of as the-number};
 ghost use Rattle.codec.specs.Codec.{Writes};
 
 // How many bytes a number has.
@@ -14,14 +15,12 @@ const SECOND: usize = 1 + NUMBER_LEN;
 
 const AFTER_SECOND: usize = SECOND + NUMBER_LEN;
 
-// The number that these bytes hold, if they are as many as a number has.
-pub fn read_number(bytes: &[u8]) -> Option<u64>
-    ensures { λ r. ⌜ Cases r (length (now (bytes .entry)) ≡ number-length → ⊥) (λ n. (length (now (bytes .entry)) ≡ number-length) × (n ≡ number-of (now (bytes .entry)))) ⌝ }
+// The number that eight bytes hold.
+pub fn number_of(bytes: &[u8]) -> u64
+    requires { ⌜ length (now bytes) ≡ number-length ⌝ }
+    ensures { λ r. ⌜ r ≡ the-number (now (bytes .entry)) ⌝ }
 {
-    if bytes.len() != NUMBER_LEN {
-        return None;
-    }
-    Some(u64::from_le_bytes([
+    u64::from_le_bytes([
         bytes[0],
         bytes[1],
         bytes[2],
@@ -30,7 +29,17 @@ pub fn read_number(bytes: &[u8]) -> Option<u64>
         bytes[5],
         bytes[6],
         bytes[7],
-    ]))
+    ])
+}
+
+// The number that these bytes hold, if they are as many as a number has.
+pub fn read_number(bytes: &[u8]) -> Option<u64>
+    ensures { λ r. ⌜ Cases r (length (now (bytes .entry)) ≡ number-length → ⊥) (λ n. (length (now (bytes .entry)) ≡ number-length) × (n ≡ the-number (now (bytes .entry)))) ⌝ }
+{
+    if bytes.len() != NUMBER_LEN {
+        return None;
+    }
+    Some(number_of(bytes))
 }
 
 // One byte.

@@ -1,2 +1,4 @@
 pub mod Rise
 pub mod Good
+pub mod Lookups
+pub mod Numbers

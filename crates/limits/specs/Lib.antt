@@ -1,1 +1,3 @@
 pub mod Limits
+pub mod Lookup
+pub mod Bytes

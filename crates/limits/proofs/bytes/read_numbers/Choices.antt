@@ -1,0 +1,10 @@
+use mathlib.Core.Path.{_≡_}
+use Prim.Native.Nat.{_*_}
+use lib.ListN.{take}
+use Rattle.std.specs.shelf.Lists.{joined}
+use Rattle.codec.specs.Bytes.{number-bytes, number-length}
+use Rattle.limits.proofs.bytes.read_numbers.Given as given
+
+-- the numbers so far have the bytes so far
+abbrev pub Inv-loop-i : given.InvT-loop-i
+Inv-loop-i l = take (number-length * l .i) (l .bytes) ≡ joined number-bytes (take (l .i) (l .table))
