@@ -4,16 +4,13 @@ ghost use Rattle.layout.specs.Layout.{asked-at, groups, index-in, page-at, que
 ghost use Rattle.units.specs.Units.{units};
 ghost use Prim.Native.Nat.{_<_, _≤_};
 ghost use mathlib.Core.Path.{_≡_};
+use crate::header::HEADER;
+use crate::header::HIGH_AT;
+use crate::header::QUEUE_AT;
 use grounds::numbers::REST_WORDS;
 use index::Index;
 use ring::Ring;
 
-// The two words of the queue.
-const QUEUE: usize = 3;
-// The high level of the index.
-const HIGH: usize = 430;
-// How many words the header has.
-const HEADER: usize = 991;
 // How many words each page has, and where its parts begin among them.
 const PAGE_STRIDE: usize = 271;
 
@@ -76,7 +73,7 @@ impl Layout {
         ensures { λ r. ⌜ r ≡ queue-in (now (self .entry)) ⌝ }
     {
         Ring {
-            header: QUEUE,
+            header: QUEUE_AT,
             slots: page_at(self.pages),
             cap: REST_WORDS as usize * self.rests,
         }
@@ -87,7 +84,7 @@ impl Layout {
         ensures { λ r. ⌜ r ≡ index-in (now (self .entry)) ⌝ }
     {
         Index {
-            high: HIGH,
+            high: HIGH_AT,
             low: page_at(self.pages) + REST_WORDS as usize * self.rests,
         }
     }

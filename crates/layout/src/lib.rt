@@ -3,6 +3,7 @@
 ghost use Rattle.layout.specs.Layout.{Areas-in-order, Fields-in-order};
 
 pub mod field;
+pub mod header;
 pub mod layout;
 
 // No two parts of memory share a word, and all lie in it.

@@ -1,0 +1,2 @@
+mod Bars
+mod Whole

@@ -1,0 +1,3 @@
+// Openings that are taken and that are refused, on examples.
+#[cfg(test)]
+mod tests;
