@@ -22,6 +22,7 @@ const ASKED: usize = 15;
 // How many pages make a group.
 const GROUP: usize = 64;
 
+#[derive(Clone, Copy)]
 pub struct Layout {
     pub pages: usize,
     pub rests: usize,

@@ -6,7 +6,7 @@ use Prim.Native.Nat.{ℕ, suc, _+_, _-_, _*_, _≤_, _<_}
 use native.Mathlib.Omega.{arith}
 use lib.ListN.{length, getD, take, drop, set, take-append-drop, length-append, length-take, length-drop}
 use Rattle.std.specs.shelf.Lists.{joined}
-use Rattle.std.proofs.shelf.Lists.{take-take, drop-take, take-more-set, take-all, joined-more, getD-append-left}
+use Rattle.std.proofs.shelf.Lists.{take-take, drop-take, take-more-set, take-all, joined-more, getD-append-left, drop-set-lt, drop-drop}
 use Rattle.std.proofs.shelf.Tests.{ltb-true}
 use Rattle.grounds.specs.Numbers.{mark-length, byte}
 use Rattle.grounds.specs.Lists.{bytes}
@@ -41,6 +41,13 @@ pub all-read : (bs table : List ℕ) (i k : ℕ) → number-length * k ≡ lengt
     bs ≡ joined number-bytes (take k table)
 all-read bs table i k whole same so-far =
     sym (take-all (number-length * i) bs (omega arith)) ∙ so-far ∙ ap (λ (j : ℕ). joined number-bytes (take j table)) same
+
+pub more-kept : (old table : List ℕ) (i n : ℕ) → drop i table ≡ drop i old → drop (i + 1) (set table i n) ≡ drop (i + 1) old
+more-kept old table i n same =
+    drop-set-lt (i + 1) table i n (omega arith) ∙ sym (drop-drop 1 i table) ∙ ap (drop 1) same ∙ drop-drop 1 i old
+
+pub all-kept : (old table : List ℕ) (i k : ℕ) → i ≡ k → drop i table ≡ drop i old → drop k table ≡ drop k old
+all-kept old table i k same kept = subst (λ (j : ℕ). drop j table ≡ drop j old) same kept
 
 -- ---- limits by their numbers
 

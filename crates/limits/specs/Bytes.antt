@@ -1,13 +1,13 @@
 -- Limits as numbers, and numbers as bytes. Assumes nothing: these are definitions.
 --     numbers-of x                   the limits x as numbers: pages, how many rest, the bytes of the mark, and then each class
---     Numbers-read bs old new r      r numbers were read from bs, and stand at the front of a table that held old and now holds new; or bs is no whole
---                             number of them that has room there, and nothing changed
+--     Numbers-read bs old new r      r numbers were read from bs, and stand at the front of a table that held old and now holds new, and behind them it is
+--                             as it was; or bs is no whole number of them that has room there, and nothing changed
 --     Limits-read ns r               r is the limits of which ns are the numbers, if there are any
 use mathlib.Core.Path.{_≡_}
 use mathlib.Core.Bool.{true}
 use mathlib.Core.List.{List, _∷_, _++_}
 use Prim.Native.Nat.{ℕ, _*_, _≤_}
-use lib.ListN.{length, take}
+use lib.ListN.{length, take, drop}
 use Rattle.std.specs.declared.option.Option.{Option}
 use Rattle.std.specs.Options.{Cases}
 use Rattle.std.specs.shelf.Lists.{joined}
@@ -24,7 +24,7 @@ Numbers-read bs old new r =
     Cases
     r
     ((new ≡ old) × ((k : ℕ) → k ≤ length old → length bs ≡ number-length * k → ⊥))
-    (λ k. (k ≤ length new) × (bs ≡ joined number-bytes (take k new)))
+    (λ k. (k ≤ length new) × (bs ≡ joined number-bytes (take k new)) × (drop k new ≡ drop k old))
 
 -- limits whose mark has as many bytes as a mark has
 pub record Has-mark (x : Given) : Type 0 where

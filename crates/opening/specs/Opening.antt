@@ -6,12 +6,12 @@
 --     opened l             all of it
 --     Opening can l g old new r      an opening with l, of memory that held old and a ground that held g, was answered by r and left memory that holds new
 use mathlib.Core.Path.{_≡_}
-use mathlib.Core.Bool.{Bool, cond, not, _&&_}
+use mathlib.Core.Bool.{Bool, cond}
 use mathlib.Core.List.{List, map}
 use Prim.Native.Nat.{ℕ, zero, suc, _+_, _*_, _-_, _/_, _%_, _^_}
-use lib.Dec.{ltb, leb, eqb}
+use lib.Dec.{ltb, eqb}
 use lib.ListN.{length, getD}
-use Rattle.grounds.specs.Numbers.{page, grain, mark-length, most-classes, rest-words}
+use Rattle.grounds.specs.Numbers.{grain, mark-length, most-classes}
 use Rattle.std.specs.Iters.{counting}
 use Rattle.grounds.specs.declared.answer.Answer.{Answer}
 use Rattle.grounds.specs.declared.answer.Answer.the-variants.{Done, Refused}
@@ -22,19 +22,16 @@ use Rattle.bits.specs.Bit.{word-bits, with-bit}
 use Rattle.index.specs.Index.{sets, high-words}
 use Rattle.units.specs.Units.{unit-words}
 use Rattle.limits.specs.Lookup.{class-number}
-use Rattle.layout.specs.Layout.{pages-at, rests-at, count-at, marks-at, classes-at, templates-at, lookup-at, high-at, page-at, groups}
+use Rattle.table.specs.Table.{fits}
+use Rattle.layout.specs.Layout.{pages-at, rests-at, count-at, marks-at, classes-at, templates-at, lookup-at, high-at, page-at, index-in, groups}
 
 abbrev pub ones : ℕ → ℕ
 ones n = cond (ltb n word-bits) (2 ^ n - 1) (2 ^ word-bits - 1)
 
--- a piece that takes c may begin at the unit u of a page
-abbrev pub may-begin : ℕ → ℕ → Bool
-may-begin c u = eqb (grain * u % c) 0 && leb (grain * u + c) page
-
 -- the lowest k bits of that word
 unfoldable pub barred-bits : ℕ → ℕ → ℕ → ℕ
 barred-bits c w zero = 0
-barred-bits c w (suc k) = cond (may-begin c (word-bits * w + k)) (barred-bits c w k) (with-bit (barred-bits c w k) k)
+barred-bits c w (suc k) = cond (fits c (word-bits * w + k)) (barred-bits c w k) (with-bit (barred-bits c w k) k)
 
 abbrev pub barred : ℕ → ℕ → ℕ
 barred c w = cond (eqb c 0) 0 (barred-bits c w word-bits)
@@ -68,7 +65,7 @@ low-word pages k = cond (eqb (k % sets) most-classes) (ones (pages - word-bits *
 
 -- where the low level of the index begins
 abbrev pub low-from : Limits → ℕ
-low-from l = page-at (l .pages) + rest-words * l .rests
+low-from l = index-in (record { pages = l .pages; rests = l .rests }) .low
 
 abbrev pub index-word : Limits → ℕ → ℕ
 index-word l i = cond (ltb i (page-at 0)) (high-word (l .pages) (i - high-at)) (cond (ltb i (low-from l)) 0 (low-word (l .pages) (i - low-from l)))

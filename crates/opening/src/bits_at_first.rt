@@ -1,6 +1,7 @@
 // Words of bits as they are at first: the units of a page where no piece of a class may begin, and sets that have all pages below one.
 ghost use Prim.Native.Nat.{_<_};
-ghost use Rattle.opening.specs.Opening.{barred, ones, may-begin};
+ghost use Rattle.opening.specs.Opening.{barred, ones};
+ghost use Rattle.table.specs.Table.{fits};
 ghost use Rattle.units.specs.Units.{units, unit-words};
 ghost use mathlib.Core.Path.{_≡_};
 use bits::WORD_BITS;
@@ -22,7 +23,7 @@ pub fn ones(count: u64) -> u64
 // Whether a piece of a class may begin at a unit of a page.
 fn may_begin(class: u64, unit: u64) -> bool
     requires { ⌜ 0 < class ⌝ ∗ ⌜ unit < units ⌝ }
-    ensures { λ r. ⌜ r ≡ may-begin class unit ⌝ }
+    ensures { λ r. ⌜ r ≡ fits class unit ⌝ }
 {
     GRAIN * unit % class == 0 && class <= PAGE - GRAIN * unit
 }

@@ -12,7 +12,6 @@ use bits::WORD_BITS;
 use grounds::numbers::GRAIN;
 use grounds::numbers::MARK_LEN;
 use grounds::numbers::MOST_CLASSES;
-use grounds::numbers::REST_WORDS;
 use index::HIGH_WORDS;
 use index::SETS;
 use layout::header::CLASSES_AT;
@@ -24,8 +23,8 @@ use layout::header::MARKS_AT;
 use layout::header::PAGES_AT;
 use layout::header::RESTS_AT;
 use layout::header::TEMPLATES_AT;
+use layout::layout::Layout;
 use layout::layout::groups;
-use layout::layout::page_at;
 use limits::limits::Limits;
 use limits::lookup::class_number;
 use units::UNIT_WORDS;
@@ -105,7 +104,11 @@ fn index_word(limits: &Limits<'_>, at: usize) -> u64
     if at < HEADER {
         return high_word(limits.pages as usize, at - HIGH_AT);
     }
-    let low = page_at(limits.pages as usize) + REST_WORDS as usize * limits.rests as usize;
+    let layout = Layout {
+        pages: limits.pages as usize,
+        rests: limits.rests as usize,
+    };
+    let low = layout.index().low;
     if at < low {
         0
     } else {
