@@ -52,8 +52,8 @@ def imported(crates):
     names = set()
     for path in files(".antt", ".rt"):
         for line in read(path).split("\n"):
-            m = re.match(r"\s*(?:ghost )?(?:pub )?use Rattle\.(\w+)\.[\w.]+\.\{(.*)\}", line)
-            if m and m.group(1) not in crates:
+            m = re.match(r"\s*(?:ghost )?(?:pub )?use ([\w.]+)\.\{(.*)\}", line)
+            if m and not (m.group(1).startswith("Rattle.") and m.group(1).split(".")[1] in crates):
                 names.update(TOKEN.findall(m.group(2)))
     return names
 

@@ -1,6 +1,6 @@
 -- Events as bytes: read back, one spelling, and where bytes cease to be an event.
 use Rattle.std.proofs.Common.{◌≡◌, ℕ, zero, suc, ◌+◌, ◌-◌, ◌<◌, ◌≤◌, min, Bool, true, false, cond, eqb, List, [], ◌∷◌, ◌++◌, length, get_or, take, replicate, sym, refl, ap, ◌∙◌, subst, arith, length-append, length-take}
-use lib.ListN.{length_replicate}
+use lib.ListN.{length-replicate}
 use Rattle.std.proofs.lemmas.Bool.{le-ltb, ne_eqb, eqb-true, eqb-false, false≢true, true≢false}
 use Rattle.grounds.specs.declared.event.Event.{Event}
 use Rattle.grounds.specs.declared.event.Event.TheVariants.{Get, Give, Size, Look, Garbled}
@@ -110,7 +110,7 @@ begin_number : (t : ℕ) (make : ℕ → Event) → Kind t make → (bs : List �
 begin_number t make kind bs small short =
     let more : ℕ = number_length - length bs in
     let zeros : List ℕ = replicate more 0 in
-    let long : length (bs ++ zeros) ≡ number_length = omega (arith, length-append bs zeros, length_replicate {A = ℕ} more 0) in
+    let long : length (bs ++ zeros) ≡ number_length = omega (arith, length-append bs zeros, length-replicate {A = ℕ} more 0) in
     let eight = eight_spelt (bs ++ zeros) (every_append is_byte bs zeros small (every_replicate is_byte more 0 refl)) long in (
       make (number_of (bs ++ zeros)),
       zeros,

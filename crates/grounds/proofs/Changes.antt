@@ -1,6 +1,6 @@
 -- Nothing else is written: each byte of the ground that an event changes lies in the mark of the piece just got, or in the piece just given back.
 use Rattle.std.proofs.Common.{◌≡◌, ℕ, ◌+◌, ◌<◌, ◌≤◌, Bool, ◌⊎◌, List, length, get_or, replicate, Some, sym, refl, ◌∙◌, inl, inr, arith}
-use lib.ListN.{length_replicate}
+use lib.ListN.{length-replicate}
 use Rattle.std.proofs.lemmas.Bool.{cases_lt}
 use Rattle.grounds.specs.declared.block.Block.{Block}
 use Rattle.grounds.specs.declared.event.Event.{Event}
@@ -41,7 +41,7 @@ module _ (can : ℕ → Bool) (l : Limits) (good : GoodLimits can l) {s : State}
       let at = find_at a s.out b found in
       let is : out_at s a ≡ b = out_found s a b found in
       let where' = changed_inside a (replicate b.room 0) g i (block_inside can l good a b g at (found_lies l s a b kept.laid_out found) kept.long) changed in
-      inr (a, refl, refl, rw is (omega (arith, at, where')), rw is (omega (arith, at, where', length_replicate {A = ℕ} b.room 0)))
+      inr (a, refl, refl, rw is (omega (arith, at, where')), rw is (omega (arith, at, where', length-replicate {A = ℕ} b.room 0)))
   step_changes (overruns a b found m) changed = absurd (changed refl)
   step_changes (sizes a b found) changed = absurd (changed refl)
   step_changes (looks_overrun b found m) changed = absurd (changed refl)

@@ -1,6 +1,6 @@
 -- What follows of what is out: it keeps what it has until it is given back, is out no more then, and its mark is looked at.
 use Rattle.std.proofs.Common.{◌≡◌, ℕ, ◌+◌, ◌*◌, ◌<◌, ◌≤◌, Bool, true, false, cond, ltb, ◌⊎◌, List, [], ◌∷◌, ◌++◌, length, replicate, is_some, Some, None, Option, sym, refl, ap, ◌∙◌, subst, inl, inr, arith}
-use lib.ListN.{length_replicate}
+use lib.ListN.{length-replicate}
 use Rattle.std.specs.List.{ContainsAt as Has, AllByRecursion as All}
 use Rattle.std.proofs.ByRecursion.{has_append_left, All-weaker, all_has_itself}
 use Rattle.std.proofs.lemmas.Bool.{and_from, lt-ltb, cond-true, cond-false, true≢false, false≢true}
@@ -45,7 +45,7 @@ module _ (can : ℕ → Bool) (l : Limits) (good : GoodLimits can l) {s : State}
 
     zeros_away : (a : ℕ) (c : Block) → c.at ≡ a → Apart c.at c.room b →
         (b.at + b.room ≤ a) ⊎ (a + length (replicate {A = ℕ} c.room 0) ≤ b.at)
-    zeros_away a c at (inl past) = inr (omega (arith, length_replicate {A = ℕ} c.room 0))
+    zeros_away a c at (inl past) = inr (omega (arith, length-replicate {A = ℕ} c.room 0))
     zeros_away a c at (inr before) = inl (omega arith)
 
     step_keeps : {e : Event} {x : Answer} {h : List ℕ} {t : State} → Happened l s g e x h t → (e ≡ Give b.at → ⊥) →

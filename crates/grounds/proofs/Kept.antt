@@ -1,6 +1,6 @@
 -- What every lived world keeps: the pieces are laid out, and the ground has its length and bytes.
 use Rattle.std.proofs.Common.{◌≡◌, ℕ, ◌+◌, ◌*◌, ◌<◌, ◌≤◌, Bool, true, ltb, List, [], ◌∷◌, ◌++◌, length, replicate, Some, sym, refl, ap, ◌∙◌, subst, arith}
-use lib.ListN.{length_replicate}
+use lib.ListN.{length-replicate}
 use Rattle.std.specs.List.{ContainsAt as Has, AllByRecursion as All}
 use Rattle.std.proofs.ByRecursion.{All-weaker, has_append_left}
 use Rattle.std.proofs.lemmas.Bool.{lt-ltb}
@@ -46,7 +46,7 @@ module _ (can : ℕ → Bool) (l : Limits) (good : GoodLimits can l) where
   mark_inside b g lie long = omega (arith, lie, good.mark_long)
 
   pub block_inside : (a : ℕ) (b : Block) (g : List ℕ) → b.at ≡ a → Lies l b → length g ≡ ground_size l → a + length (replicate {A = ℕ} b.room 0) ≤ length g
-  block_inside a b g at lie long = omega (arith, lie, length_replicate {A = ℕ} b.room 0)
+  block_inside a b g at lie long = omega (arith, lie, length-replicate {A = ℕ} b.room 0)
 
   step_long : {s t : State} {g h : List ℕ} {e : Event} {x : Answer} → Happened l s g e x h t → Laid_out l (all_blocks s) → length g ≡ ground_size l →
       length h ≡ ground_size l
@@ -99,7 +99,7 @@ module _ (can : ℕ → Bool) (l : Limits) (good : GoodLimits can l) where
   new_kept =
       record {
         laid_out = none_laid l;
-        long = length_replicate (ground_size l) 0;
+        long = length-replicate (ground_size l) 0;
         all_bytes = every_replicate (λ b. ltb b byte) (ground_size l) 0 refl;
       }
 

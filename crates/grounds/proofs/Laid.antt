@@ -1,6 +1,6 @@
 -- Nobody is given what another has: pieces that are laid out stay so, whatever is asked, where it is answered rightly.
 use Rattle.std.proofs.Common.{◌≡◌, ℕ, ◌+◌, ◌*◌, ◌/◌, ◌%◌, ◌<◌, ◌≤◌, Bool, true, false, ◌&&◌, ◌||◌, eqb, ltb, leb, ◌⊎◌, List, [], ◌∷◌, ◌++◌, Some, sym, refl, ap, ◌∙◌, subst, inl, inr, append_assoc, add-zero, mul_assoc, arith}
-use native.Mathlib.Nat.{mul_mod_left}
+use native.Mathlib.Nat.{mul-mod_left}
 use Rattle.std.specs.List.{ContainsAt as Has}
 use Rattle.std.proofs.lemmas.Nat.{div-add-mod'}
 use Rattle.std.proofs.lemmas.Bool.{and_parts, and_from, or_cases, or_left, or_right, cases_Bool, cases_lt, lt-ltb, eqb-true, eq-eqb}
@@ -92,7 +92,7 @@ multiples x c h k =
     ∙ add-zero (x / c * c)
     ∙ ap (λ (d : ℕ). x / c * d) (omega arith)
     ∙ sym (mul_assoc (x / c) (c / grain) grain) in
-    ap (λ (y : ℕ). y % grain) whole ∙ mul_mod_left (x / c * (c / grain)) grain
+    ap (λ (y : ℕ). y % grain) whole ∙ mul-mod_left (x / c * (c / grain)) grain
 
 module _ (can : ℕ → Bool) (l : Limits) (good : GoodLimits can l) (n a : ℕ) (bs : List Block) where
   got_from : Lies l (got_at l n a) → every (apart a (room_for l n)) bs ≡ true →

@@ -3,7 +3,7 @@
 --     Beyond x bs      x is in no piece of bs
 --     Well l s g       nothing is spoilt, the marks are there, and what is in nothing that is out is 0
 use Rattle.std.proofs.Common.{◌≡◌, ℕ, zero, suc, ◌+◌, ◌-◌, ◌*◌, ◌<◌, ◌≤◌, Bool, true, false, not, ◌&&◌, ◌||◌, eqb, ltb, leb, ◌⊎◌, List, [], ◌∷◌, ◌++◌, length, get_or, replicate, Some, sym, refl, ap, ◌∙◌, subst, inl, inr, ⊎_elim, append-nil, arith}
-use lib.ListN.{length_replicate}
+use lib.ListN.{length-replicate}
 use Rattle.std.specs.List.{ContainsAt as Has}
 use Rattle.std.proofs.lemmas.List.{get_or-replicate}
 use Rattle.std.proofs.ByRecursion.{has_append_left, has_append_right}
@@ -220,7 +220,7 @@ module _ (can : ℕ → Bool) (l : Limits) (good : GoodLimits can l) (s : State)
 
     give_away : (c : Block) → Has (without a s.out) c → Apart b.at b.room c →
         (mark_place c + mark_length ≤ a) ⊎ (a + length (replicate {A = ℕ} b.room 0) ≤ mark_place c)
-    give_away c hc (inl past) = inr (omega (arith, begins, length_replicate {A = ℕ} b.room 0, out_lies c (left_out c hc)))
+    give_away c hc (inl past) = inr (omega (arith, begins, length-replicate {A = ℕ} b.room 0, out_lies c (left_out c hc)))
     give_away c hc (inr before) = inl (omega (arith, begins, out_lies c (left_out c hc)))
 
     -- a byte of what was given back is 0; any other is as it was
@@ -237,7 +237,7 @@ module _ (can : ℕ → Bool) (l : Limits) (good : GoodLimits can l) (s : State)
         go (inr low) (inl high) = get_or_over_in a (replicate b.room 0) g given_inside x 0 low high ∙ zero_everywhere b.room (x - a)
         go (inr low) (inr past) =
             get_or_over_out a (replicate b.room 0) g given_inside x 0 (inr past)
-            ∙ well.zeros x (all (inr (omega (arith, begins, length_replicate {A = ℕ} b.room 0))))
+            ∙ well.zeros x (all (inr (omega (arith, begins, length-replicate {A = ℕ} b.room 0))))
 
     pub give_well : Well l (one_rests l s a b) (over a (replicate b.room 0) g)
     give_well =

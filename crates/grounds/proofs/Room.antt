@@ -1,6 +1,6 @@
 -- Where a small piece may be, and that there is a place for one more while all pieces are of one class and fewer than the pages have places for.
 use Rattle.std.proofs.Common.{◌≡◌, ℕ, ◌+◌, ◌*◌, ◌/◌, ◌%◌, ◌<◌, ◌≤◌, Bool, true, eqb, List, [], ◌∷◌, length, Decides, refl, ⊎_elim, mul-le-mul_right, mod-lt, mul-le-mul_left, div-add-mod', div-mul-le_self, mul-div_cancel, arith}
-use native.Mathlib.Nat.{lt_of_mul_lt_mul_left, div_add_mod, mul_mod_left}
+use native.Mathlib.Nat.{lt_of_mul-lt-mul_left, div-add-mod, mul-mod_left}
 use Rattle.std.specs.List.{AllByRecursion as All}
 use Rattle.std.proofs.lemmas.Bool.{eqb-true, and_parts, cases_lt}
 use Rattle.std.proofs.lemmas.Nat.{div_below, le-div}
@@ -36,9 +36,9 @@ laid_sits l b some fits laid = grind (arith, nat_tests)
 
 multiples_apart : (c x y : ℕ) → x % c ≡ 0 → y % c ≡ 0 → x < y → x + c ≤ y
 multiples_apart c x y p q less =
-    let x_is = div_add_mod x c in
-    let y_is = div_add_mod y c in
-    omega (arith, mul-le-mul_left c (lt_of_mul_lt_mul_left c {m = x / c} {n = y / c} (omega arith)))
+    let x_is = div-add-mod x c in
+    let y_is = div-add-mod y c in
+    omega (arith, mul-le-mul_left c (lt_of_mul-lt-mul_left c {m = x / c} {n = y / c} (omega arith)))
 
 pub sits_apart : (c a b : ℕ) → Sits c a → Sits c b → a < b → a + c ≤ b
 sits_apart c a b p q less =
@@ -69,7 +69,7 @@ module _ (c : ℕ) (some : 0 < c) (fits : c ≤ page) where
   place_on_page j = omega (arith, place_ends j)
 
   place_sits : (j : ℕ) → Sits c (place c j)
-  place_sits j = rw (place_on_page j) (mul_mod_left (j % (page / c)) c, place_ends j)
+  place_sits j = rw (place_on_page j) (mul-mod_left (j % (page / c)) c, place_ends j)
 
   place_below : (pages j : ℕ) → j < pages * (page / c) → place c j < pages * page
   place_below pages j low = omega (arith, place_page j, div_below j (page / c) pages page_has_some low)

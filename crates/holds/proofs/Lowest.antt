@@ -1,6 +1,6 @@
 -- The lowest spot of a class, as memory tells it, is the lowest place of a piece of that class, as the table tells it.
 use Rattle.std.proofs.Common.{◌≡◌, ℕ, ◌+◌, ◌*◌, ◌<◌, ◌≤◌, Bool, true, false, cond, not, ◌&&◌, ◌||◌, eqb, ltb, leb, ◌⊎◌, List, length, get_or, Some, None, Option, unwrap_or, sym, refl, ap, ◌∙◌, subst, inl, inr, ⊎_elim, arith}
-use native.Mathlib.Nat.{zero_mod}
+use native.Mathlib.Nat.{zero-mod}
 use Rattle.std.specs.List.{ContainsAt as Has}
 use Rattle.std.proofs.ByRecursion.{all-has, has_get_or}
 use Rattle.std.proofs.lemmas.Bool.{and_parts, and_from, and_left, or_from, cases_Bool, cases_lt, eqb-true, eq-eqb, ne_eqb, le-leb, lt-ltb, le-ltb, ltb-true, leb-true, cond-true, cond-false, both_ways}
@@ -104,7 +104,7 @@ module _
             and_from
             (fits c.room 0)
             _
-            (and_from _ _ (eq-eqb _ 0 (zero_mod c.room)) (le-leb _ page (omega (arith, room_good.fits_page))))
+            (and_from _ _ (eq-eqb _ 0 (zero-mod c.room)) (le-leb _ page (omega (arith, room_good.fits_page))))
             (eq-eqb _ 0 (empty_free l t s stands p 0 (omega arith) none))
 
     -- the page is in one of the two sets exactly if it is open

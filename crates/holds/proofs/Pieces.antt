@@ -1,6 +1,6 @@
 -- What a table that stands for pieces, all small, knows of each of them.
 use Rattle.std.proofs.Common.{◌≡◌, ℕ, zero, suc, ◌+◌, ◌*◌, ◌/◌, ◌%◌, ◌<◌, ◌≤◌, Bool, true, eqb, leb, ◌⊎◌, List, [], ◌∷◌, ◌++◌, map, length, sym, refl, ap, ◌∙◌, subst, inl, inr, ⊎_elim, arith}
-use native.Mathlib.Nat.{zero_mod}
+use native.Mathlib.Nat.{zero-mod}
 use Rattle.std.specs.List.{ContainsAt as Has}
 use Rattle.std.proofs.ByRecursion.{all-has}
 use Rattle.std.proofs.lemmas.Bool.{cases_lt, eq-eqb, le-leb, and_from}
@@ -71,7 +71,7 @@ module _ (l : Limits) (t : Table) (s : State) (stands : Stands l t s) where
             let large : class_of b.size l.classes ≡ 0 = omega arith in
             let flat = lie.large_sits large in
             let whole = room_large l b.size large in
-            (rw flat (zero_mod b.room), omega (arith, flat, room_small))
+            (rw flat (zero-mod b.room), omega (arith, flat, room_small))
 
     pub piece_within : b.at % page + b.room ≤ page
     piece_within = sits.1

@@ -1,6 +1,6 @@
 -- What a look finds in the table: which bytes are in pieces that are out or spoilt, and the lowest mark that was changed and byte that is harmed.
 use Rattle.std.proofs.Common.{◌≡◌, ℕ, ◌+◌, ◌-◌, ◌*◌, ◌/◌, ◌%◌, ◌<◌, ◌≤◌, Bool, true, false, not, ◌&&◌, ◌||◌, eqb, ltb, leb, ◌⊎◌, List, ◌++◌, get_or, Some, None, count_by, Option, unwrap_or, sym, refl, ap, ◌∙◌, subst, inl, inr, ⊎_elim, div-mul-le_self, arith}
-use native.Mathlib.Nat.{zero_mod, lt_div_mul_add}
+use native.Mathlib.Nat.{zero-mod, lt-div-mul-add}
 use Rattle.std.specs.List.{ContainsAt as Has}
 use Rattle.std.proofs.lemmas.Nat.{div-add-mod', div-mul-add}
 use Rattle.std.proofs.ByRecursion.{all-has, has_append_left, has_append_right}
@@ -67,7 +67,7 @@ module _ (l : Limits) (t : Table) (s : State) (known : Pieces l t s) where
     where
       go : (0 < class_of b.size l.classes) ⊎ (class_of b.size l.classes ≤ 0) → (b.at % page) % b.room ≡ 0
       go (inl some) = ((its_lies b has).small_sits some).0
-      go (inr few) = ap (λ (y : ℕ). y % b.room) (large_is b has (omega arith)).0 ∙ zero_mod b.room
+      go (inr few) = ap (λ (y : ℕ). y % b.room) (large_is b has (omega arith)).0 ∙ zero-mod b.room
 
   covers_touches : (b : Block) (x : ℕ) → Covers b x → touches (x / page) b ≡ true
   covers_touches b x covers = touch_from (x / page) b (omega arith) (omega arith)
@@ -216,7 +216,7 @@ module _ (l : Limits) (t : Table) (s : State) (known : Pieces l t s) where
           let kind = (its_known b one.1 (x / page) one.2).0 in
           let k = t.kind (x / page) in
           let d = x - t.head (x / page) * page in
-          let next : d < d / k * k + k = lt_div_mul_add (omega arith) in
+          let next : d < d / k * k + k = lt-div-mul-add (omega arith) in
           let there = one_there (start t x) facts.1 in
           let taken = count_has (λ c. eqb c.at (start t x)) (all_blocks s) there.0 there.2 (eq-eqb there.0.at (start t x) there.3) in
           let once = known.once (start t x) in
