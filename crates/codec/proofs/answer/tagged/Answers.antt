@@ -9,11 +9,11 @@ returns c =
     let long : length c.args.rest.now ≡ 2 * number_length = omega arith in
     sixteen_read
     c.args.tag
-    c.in-ok-first.first
-    c.in-ok-second.second
+    c.in_ok-first.first
+    c.in_ok-second.second
     c.args.rest.now
     c.read_with_two.result
     long
-    c.in-ok-first.ensures.1
-    (c.in-ok-second.ensures.1 ∙ ap number_of (take_rest c.args.rest.now 8))
+    c.in_ok-first.ensures.1
+    (c.in_ok-second.ensures.1 ∙ ap number_of (take_rest c.args.rest.now 8))
     c.read_with_two.ensures

@@ -5,14 +5,14 @@ use Rattle.codec.proofs.number.write_with_two.Goals as goal
 
 pub returns : goal.returns
 returns c =
-    let first : c.copy-from-slice.new.self ≡ number_bytes c.args.m = c.copy-from-slice.ensures.after ∙ c.to-le-bytes.ensures ∙ le_bytes c.args.m in
-    let second : c.copy-from-slice-2.new.self ≡ number_bytes c.args.n = c.copy-from-slice-2.ensures.after ∙ c.to-le-bytes-2.ensures ∙ le_bytes c.args.n in (
+    let first : c.copy_from_slice.new.self ≡ number_bytes c.args.m = c.copy_from_slice.ensures.after ∙ c.to_le_bytes.ensures ∙ le_bytes c.args.m in
+    let second : c.copy_from_slice-2.new.self ≡ number_bytes c.args.n = c.copy_from_slice-2.ensures.after ∙ c.to_le_bytes-2.ensures ∙ le_bytes c.args.n in (
       refl,
       omega arith,
       two_written
           c.args.out.now
-          c.copy-from-slice.new.self
-          c.copy-from-slice-2.new.self
+          c.copy_from_slice.new.self
+          c.copy_from_slice-2.new.self
           c.args.tag
           (ap length first)
           (ap length second)

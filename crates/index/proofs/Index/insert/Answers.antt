@@ -10,7 +10,7 @@ returns c =
     let k = c.args.set in
     let p = c.args.page in
     let words
-    = inserted_is i m k p c.low-at-low-at.ensures c.high-at-high-at.ensures c.word.ensures c.word-2.ensures c.with-set-low.ensures.value c.with-set-high.ensures.value c.put.ensures
+    = inserted_is i m k p c.low_at-low_at.ensures c.high_at-high_at.ensures c.word.ensures c.word-2.ensures c.with_set-low.ensures.value c.with_set-high.ensures.value c.put.ensures
     c.put-2.ensures in
     record {
       words = words;

@@ -12,7 +12,7 @@ loop-i-preserved c = (
       c.loop-i.i
       (number_length * c.loop-i.i + number_length - number_length * c.loop-i.i)
       c.number_of.result
-      (bytes_from_reads c.args.bytes.now (λ i. (c.type-inv.bytes i).fits))
+      (bytes_from_reads c.args.bytes.now (λ i. (c.type_inv.bytes i).fits))
       (omega arith)
       (omega arith)
       (omega arith)

@@ -8,11 +8,11 @@ loop-k-init c = none_barred c.args.class c.args.word
 
 pub loop-k-preserved : goal.loop-k-preserved
 loop-k-preserved c =
-    elim c.if-not-may-begin.branch [
+    elim c.if-not-may_begin.branch [
       | then-not-may-begin w ↦
-          w.bits-is ∙ w.with-set-bits.ensures.value
-          ∙ one_barred c.args.class c.args.word c.loop-k.k c.loop-k.bits c.loop-k.invariant (sym c.may_begin.ensures ∙ w.if-not-may-begin.true)
+          w.bits-is ∙ w.with_set-bits.ensures.value
+          ∙ one_barred c.args.class c.args.word c.loop-k.k c.loop-k.bits c.loop-k.invariant (sym c.may_begin.ensures ∙ w.if-not-may_begin.true)
       | else-not-may-begin w ↦
           w.bits-is
-          ∙ one_open c.args.class c.args.word c.loop-k.k c.loop-k.bits c.loop-k.invariant (sym c.may_begin.ensures ∙ w.if-not-may-begin.false)
+          ∙ one_open c.args.class c.args.word c.loop-k.k c.loop-k.bits c.loop-k.invariant (sym c.may_begin.ensures ∙ w.if-not-may_begin.false)
     ]

@@ -7,18 +7,18 @@ use Rattle.script.proofs.line.read_bytes.Goals.{In-ok-push}
 
 -- all the words, where the loop begins
 start : (c : In-ok-push) → left c.args.words ≡ map decimal (vec_items c.push.new.self) ++ left c.take_byte.new.self
-start c = begun _ _ _ _ _ c.in-ok-take-byte.ensures.1 c.new-bytes.ensures.items c.in-ok-push.ensures.items
+start c = begun _ _ _ _ _ c.in_ok-take_byte.ensures.1 c.new-bytes.ensures.items c.in_ok-push.ensures.items
 
-pub returns-in-err-take-byte : goal.returns-in-err-take-byte
-returns-in-err-take-byte c =
-    reads_exit _ _ c.from-residual.result _ _ _ c.from-residual.ensures.1 c.in-err-take-byte.ensures (λ none v fits is. no_numbers 256 _ _ none fits is)
+pub returns-in_err-take_byte : goal.returns-in_err-take_byte
+returns-in_err-take_byte c =
+    reads_exit _ _ c.from-residual.result _ _ _ c.from-residual.ensures.1 c.in_err-take_byte.ensures (λ none v fits is. no_numbers 256 _ _ none fits is)
 
-pub returns-in-default-byte : goal.returns-in-default-byte
-returns-in-default-byte c = λ v fits is.
-    let found = next_number (start (goal.at.returns-in-default-byte c).In-ok-push) c.loop-word.invariant c.in-Some.ensures _ fits.1 is in
-    c.in-default-byte.ensures found.0 found.1 found.2
+pub returns-in_default-byte : goal.returns-in_default-byte
+returns-in_default-byte c = λ v fits is.
+    let found = next_number (start (goal.at.returns-in_default-byte c).In-ok-push) c.loop-word.invariant c.in-Some.ensures _ fits.1 is in
+    c.in_default-byte.ensures found.0 found.1 found.2
 
 pub loop-word-preserved : goal.loop-word-preserved
 loop-word-preserved c =
     let read = c.in-Some-byte.ensures in
-    one_more 256 _ _ _ _ _ _ _ c.loop-word.invariant c.in-Some.ensures read.1 read.0 c.in-ok-push-2.ensures.items
+    one_more 256 _ _ _ _ _ _ _ c.loop-word.invariant c.in-Some.ensures read.1 read.0 c.in_ok-push-2.ensures.items

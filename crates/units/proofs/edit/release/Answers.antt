@@ -15,6 +15,6 @@ returns c =
       words = words;
       bits = λ inside v near.
           subst (λ (x : List ℕ). unit_bit x at v ≡ (not (eqb v u) && unit_bit m at v)) (sym words)
-          (released_bits m at u (omega arith) (omega (arith, c.word.ensures, c.word.type-inv)) inside v);
+          (released_bits m at u (omega arith) (omega (arith, c.word.ensures, c.word.type_inv)) inside v);
       rest = subst (Rest at m) (sym words) (released_rest m at u (omega arith));
     }

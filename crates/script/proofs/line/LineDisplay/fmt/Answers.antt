@@ -8,7 +8,7 @@ use Rattle.script.proofs.line.LineDisplay.fmt.Goals as goal
 
 pub returns-in-Write-clause-writes : goal.returns-in-Write-clause-writes
 returns-in-Write-clause-writes g c =
-    let bytes = ap (row (λ (n : ℕ). Some (decimal n))) c.as-slice.ensures.value ∙ row_numbers _ in
+    let bytes = ap (row (λ (n : ℕ). Some (decimal n))) c.as_slice.ensures.value ∙ row_numbers _ in
     displays_on_ok_of_eq g.W.Write.write_str_gives c.args.f.now c.write-in-Write.new.self c.write-in-Write.result _ (Some (line_text c.args.self.now))
     (ap (λ (o : Option (List ℕ)). option_append (Some (codes "write ")) (option_append (Some (decimal c.in-Write.place)) o)) bytes ∙ sym (ap (λ (l : Line). Some (line_text l)) c.in-Write.is))
     c.write-in-Write.ensures.writes

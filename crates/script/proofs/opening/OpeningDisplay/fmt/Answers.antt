@@ -8,7 +8,7 @@ use Rattle.script.proofs.opening.OpeningDisplay.fmt.Goals as goal
 pub returns-clause-writes : goal.returns-clause-writes
 returns-clause-writes g c =
     let o = c.args.self.now in
-    let classes = ap (row (λ (n : ℕ). Some (decimal n))) c.as-slice.ensures.value ∙ row_numbers _ in
+    let classes = ap (row (λ (n : ℕ). Some (decimal n))) c.as_slice.ensures.value ∙ row_numbers _ in
     let marks = row_numbers o.marks in
     displays_on_ok_of_eq g.W.Write.write_str_gives c.args.f.now c.write.new.self c.write.result _ (Some (opening_text o))
     (λ i. option_append (Some (codes "open pages ")) (option_append (Some (decimal o.pages)) (option_append (Some (codes " classes")) (option_append (classes i) (option_append (Some (codes " rests ")) (option_append (Some (decimal o.rests)) (option_append (Some (codes " marks")) (marks i))))))))

@@ -7,24 +7,24 @@ use Rattle.script.proofs.words.Words.next_word.Goals.{After-run-length, After-ru
 gap : (c : After-run-length) → Run true c.args.self.now.rest.now c.run_length.result
 gap c =
     let told = c.run_length.ensures in
-    subst (λ bs. Run true bs c.run_length.result) c.as-bytes.ensures.value (record { within = told.within; all = told.all; stops = told.stops })
+    subst (λ bs. Run true bs c.run_length.result) c.as_bytes.ensures.value (record { within = told.within; all = told.all; stops = told.stops })
 
 -- the word after them
-run : (c : After-run-length-2) → Run false c.split-at.result.1.now c.run-length-2.result
+run : (c : After-run-length-2) → Run false c.split_at.result.1.now c.run_length-2.result
 run c =
-    let told = c.run-length-2.ensures in
-    subst (λ bs. Run false bs c.run-length-2.result) c.as-bytes-2.ensures.value (record { within = told.within; all = told.all; stops = told.stops })
+    let told = c.run_length-2.ensures in
+    subst (λ bs. Run false bs c.run_length-2.result) c.as_bytes-2.ensures.value (record { within = told.within; all = told.all; stops = told.stops })
 
-pub split-at-requires : goal.split-at-requires
-split-at-requires c = run_cut true _ _ (rw c.as-bytes.ensures.value at c.as-bytes.ensures.utf8) (gap c)
+pub split_at-requires : goal.split_at-requires
+split_at-requires c = run_cut true _ _ (rw c.as_bytes.ensures.value at c.as_bytes.ensures.utf8) (gap c)
 
-pub returns-then-is-empty : goal.returns-then-is-empty
-returns-then-is-empty c =
-    no_word _ _ _ _ _ _ (gap (goal.at.returns-then-is-empty c).After-run-length) c.split-at.ensures.back (run (goal.at.returns-then-is-empty c).After-run-length-2) c.split-at-2.ensures.front c.split-at-2.ensures.back
-    (true-eqb _ 0 c.if-is-empty.ensures)
+pub returns-then-is_empty : goal.returns-then-is_empty
+returns-then-is_empty c =
+    no_word _ _ _ _ _ _ (gap (goal.at.returns-then-is_empty c).After-run-length) c.split_at.ensures.back (run (goal.at.returns-then-is_empty c).After-run-length-2) c.split_at-2.ensures.front c.split_at-2.ensures.back
+    (true-eqb _ 0 c.if-is_empty.ensures)
 
-pub returns-else-is-empty : goal.returns-else-is-empty
-returns-else-is-empty c =
-    let some = false-eqb _ 0 c.if-is-empty.ensures in
-    one_word _ _ _ _ _ _ (gap (goal.at.returns-else-is-empty c).After-run-length) c.split-at.ensures.back (run (goal.at.returns-else-is-empty c).After-run-length-2) c.split-at-2.ensures.front c.split-at-2.ensures.back
+pub returns-else-is_empty : goal.returns-else-is_empty
+returns-else-is_empty c =
+    let some = false-eqb _ 0 c.if-is_empty.ensures in
+    one_word _ _ _ _ _ _ (gap (goal.at.returns-else-is_empty c).After-run-length) c.split_at.ensures.back (run (goal.at.returns-else-is_empty c).After-run-length-2) c.split_at-2.ensures.front c.split_at-2.ensures.back
     (omega (arith, some))
