@@ -21,12 +21,12 @@ returns-in_default-ground_bytes c =
     not_taken can (limits_in can c.args.limits.now) c.args.ground.now c.args.memory.now
     (λ may. c.in_default-ground_bytes.ensures can may.good)
 
-pub returns-then-memory_words : goal.returns-then-memory_words
-returns-then-memory_words c =
+pub returns-then-memory-words : goal.returns-then-memory-words
+returns-then-memory-words c =
     λ can.
     not_taken can (limits_in can c.args.limits.now) c.args.ground.now c.args.memory.now
     (λ may.
-    elim c.then-memory_words.either [
+    elim c.then-memory-words.either [
       | inl other ↦ other (may.memory_long ∙ sym (c.in-Some.ensures can))
       | inr other ↦ other.1 (may.ground_long ∙ sym (c.in-Some-ground_bytes.ensures can))
     ])
@@ -34,7 +34,7 @@ returns-then-memory_words c =
 pub write_all-requires : goal.write_all-requires
 write_all-requires c =
     let small = c.are_good.ensures.small c.if-not-are_good.false in
-    (small.0, (small.1, omega (arith, c.if-memory_words.false, c.in-Some.ensures (λ (k : ℕ). true), small.0, small.1)))
+    (small.0, (small.1, omega (arith, c.if-memory-words.false, c.in-Some.ensures (λ (k : ℕ). true), small.0, small.1)))
 
 pub returns : goal.returns
 returns c =
@@ -42,8 +42,8 @@ returns c =
     is_taken can (limits_in can c.args.limits.now) c.args.ground.now c.args.memory.now c.write_all.new.memory
     (record {
       good = (c.are_good.ensures.good can).0 c.if-not-are_good.false;
-      memory_long = c.if-memory_words.false ∙ c.in-Some.ensures can;
-      ground_long = c.if-ground_bytes.false ∙ c.in-Some-ground_bytes.ensures can;
+      memory_long = c.if-memory-words.false ∙ c.in-Some.ensures can;
+      ground_long = c.if-ground-bytes.false ∙ c.in-Some-ground_bytes.ensures can;
     })
     c.write_all.auto.memory
     (c.write_all.ensures can)
