@@ -1,4 +1,6 @@
 // Bits of a word: set, cleared and tested by shifts and masks, and the lowest that is set by counting zeros at the end.
+#![tactic(auto)]
+
 ghost use Rattle.std.specs.Prelude.{◌≡◌, ℕ, ◌<◌, true, false, not, ◌&&◌, ◌||◌, ◌==◌};
 ghost use Rattle.bits.specs.Bit.{bit, with_bit, without_bit, lowest_bit, word_bits};
 

@@ -8,7 +8,7 @@
 --     freed x m s           what was at s is there no more; nothing changes where the words of the page are such as no page has
 --     freed_at x m a        the same of a place on the ground
 --     rested_in x m a       what begins at a rests, and where too many rest, the oldest is free
-use Rattle.std.specs.Prelude.{ℕ, ◌+◌, ◌-◌, ◌*◌, Bool, true, cond, ◌&&◌, List, set, is_some, ◌==◌, nat_eq, nat_lt, slice_set}
+use Rattle.std.specs.Prelude.{ℕ, ◌+◌, ◌-◌, ◌*◌, Bool, cond, ◌&&◌, List, is_some, ◌==◌, nat_eq, nat_lt, slice_set}
 use Rattle.std.specs.Option.{unwrap_or}
 use Rattle.grounds.specs.Numbers.{most_classes}
 use Rattle.index.specs.declared.Index.{Index}

@@ -1,6 +1,6 @@
 -- Properties of a bag: those that hold however a list is ordered, and of each part of it. What moves from list to list keeps them.
 --     Bag P      P goes on to hold as an element is moved to the front or from it, and as one is taken away
-use Rattle.std.proofs.Common.{◌≡◌, ℕ, Bool, true, ◌&&◌, List, [], ◌∷◌, ◌++◌, take, drop, sym, refl, ap, ◌∙◌, subst, append_assoc, take-append-drop}
+use Rattle.std.proofs.Common.{◌≡◌, ℕ, Bool, true, List, [], ◌∷◌, ◌++◌, take, drop, sym, ap, ◌∙◌, subst, append_assoc, take-append-drop}
 use Rattle.std.proofs.lemmas.Bool.{and_parts, and_from}
 use Rattle.grounds.specs.Lists.{every, each_pair}
 use Rattle.grounds.proofs.Lists.{every_append, every_parts}

@@ -1,14 +1,12 @@
 -- Nothing else is written: each byte of the ground that an event changes lies in the mark of the piece just got, or in the piece just given back.
-use Rattle.std.proofs.Common.{◌≡◌, ℕ, ◌+◌, ◌<◌, ◌≤◌, Bool, ◌⊎◌, List, length, get_or, replicate, Some, sym, refl, ◌∙◌, inl, inr, arith}
+use Rattle.std.proofs.Common.{◌≡◌, ℕ, ◌+◌, ◌<◌, ◌≤◌, Bool, ◌⊎◌, List, length, get_or, replicate, refl, inl, inr, arith}
 use lib.ListN.{length-replicate}
 use Rattle.std.proofs.lemmas.Bool.{cases_lt}
-use Rattle.grounds.specs.declared.block.Block.{Block}
 use Rattle.grounds.specs.declared.event.Event.{Event}
-use Rattle.grounds.specs.declared.event.Event.TheVariants.{Get, Give, Look, Size}
 use Rattle.grounds.specs.declared.answer.Answer.{Answer}
 use Rattle.grounds.specs.Lists.{over}
 use Rattle.grounds.specs.Blocks.{Limits}
-use Rattle.grounds.specs.Grounds.{State, all_blocks, find, out_at, got_at, mark_place}
+use Rattle.grounds.specs.Grounds.{State, all_blocks, out_at, got_at, mark_place}
 use Rattle.grounds.specs.Worlds.{GoodLimits, Program}
 use Rattle.grounds.specs.Promises.{Right}
 use Rattle.grounds.specs.Statements.{ChangedBy, NothingElse}

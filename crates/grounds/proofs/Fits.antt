@@ -1,7 +1,6 @@
 -- Each answer of a keeper whose answers are right fits its bytes: what it tells lies in the ground, is a size, or came with the event.
-use Rattle.std.proofs.Common.{◌≡◌, ℕ, ◌+◌, ◌*◌, ◌<◌, ◌≤◌, Bool, true, ◌&&◌, ltb, List, Some, refl, arith}
-use Rattle.std.proofs.lemmas.Bool.{and_parts, and_from, lt-ltb}
-use Rattle.grounds.specs.declared.block.Block.{Block}
+use Rattle.std.proofs.Common.{◌≡◌, ℕ, ◌<◌, ◌≤◌, Bool, true, ◌&&◌, ltb, List, refl, arith}
+use Rattle.std.proofs.lemmas.Bool.{and_from, lt-ltb}
 use Rattle.grounds.specs.declared.event.Event.{Event}
 use Rattle.grounds.specs.declared.event.Event.TheVariants.{Get, Give, Size, Look, Garbled}
 use Rattle.grounds.specs.declared.answer.Refusal.{Refusal}
@@ -10,7 +9,7 @@ use Rattle.grounds.specs.declared.answer.Answer.{Answer}
 use Rattle.grounds.specs.Numbers.{word}
 use Rattle.grounds.specs.Blocks.{Limits, ground_size}
 use Rattle.grounds.specs.Events.{readable, refusal_number, answer_fits}
-use Rattle.grounds.specs.Grounds.{State, all_blocks, find, got_at, place_of}
+use Rattle.grounds.specs.Grounds.{State, all_blocks, got_at, place_of}
 use Rattle.grounds.specs.Worlds.{GoodLimits, Program}
 use Rattle.grounds.specs.Promises.{Right, AnswersFit}
 use Rattle.grounds.proofs.Apart.{Lies}

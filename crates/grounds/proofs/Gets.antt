@@ -1,17 +1,15 @@
 -- What follows of a get: what is got is zeros, nothing that rests or is spoilt is given out, harm is there where it is told, and there is room.
-use Rattle.std.proofs.Common.{◌≡◌, ℕ, ◌+◌, ◌*◌, ◌/◌, ◌<◌, ◌≤◌, Bool, true, false, cond, ◌&&◌, eqb, ltb, leb, ◌⊎◌, List, [], ◌∷◌, ◌++◌, length, get_or, Some, None, Option, sym, refl, ap, ◌∙◌, subst, inl, inr, arith}
+use Rattle.std.proofs.Common.{◌≡◌, ℕ, ◌+◌, ◌<◌, ◌≤◌, Bool, true, false, cond, ◌&&◌, eqb, ltb, leb, ◌⊎◌, List, ◌++◌, length, get_or, Some, None, sym, refl, ap, ◌∙◌, subst, inl, inr, arith}
 use Rattle.std.proofs.lemmas.Bool.{and_from, cases_lt, eqb-false, lt-ltb, le-leb, or_left, cond-true}
 use Rattle.grounds.specs.declared.block.Block.{Block}
 use Rattle.grounds.specs.declared.event.Event.TheVariants.{Get}
-use Rattle.grounds.specs.declared.answer.Refusal.{Refusal}
 use Rattle.grounds.specs.declared.answer.Refusal.TheVariants.{OutOfRange, NoRoom}
 use Rattle.grounds.specs.declared.answer.Answer.{Answer}
 use Rattle.grounds.specs.declared.answer.Answer.TheVariants.{Place, Harmed}
-use Rattle.grounds.specs.Numbers.{page, mark_length}
-use Rattle.grounds.specs.Lists.{every, part, over, all_zero}
-use Rattle.grounds.specs.Blocks.{Limits, ground_size, class_of, large, room_for, apart_all, may_be, some_place}
+use Rattle.grounds.specs.Lists.{part, over, all_zero}
+use Rattle.grounds.specs.Blocks.{Limits, ground_size, class_of, room_for, apart_all, may_be, some_place}
 use Rattle.grounds.specs.Events.{answer_number}
-use Rattle.grounds.specs.Grounds.{State, new_state, all_blocks, got_at, mark_place, turned, turned_by, good_fields, clean_there}
+use Rattle.grounds.specs.Grounds.{State, all_blocks, got_at, mark_place, turned, turned_by, good_fields, clean_there}
 use Rattle.grounds.specs.Worlds.{GoodLimits, Program}
 use Rattle.grounds.specs.Promises.{Right}
 use Rattle.grounds.specs.Statements.{GotIsZero, Rests, HarmIsThere, RoomForMany, NothingLeaks}
@@ -20,7 +18,7 @@ use Rattle.grounds.proofs.Parts.{length_part_le, get_d_part, part_part, length_o
 use Rattle.grounds.proofs.Classes.{class_has, class_fits, room_large, room_small}
 use Rattle.grounds.proofs.Apart.{may_small, may_large}
 use Rattle.grounds.proofs.Happened.{Happened, turns_away, gets, spoils, happened}
-use Rattle.grounds.proofs.Kept.{Kept, got_lies, mark_inside, lived_kept}
+use Rattle.grounds.proofs.Kept.{got_lies, mark_inside, lived_kept}
 use Rattle.grounds.proofs.Room.{room_for_many}
 
 -- ---- a get that is told a place, or harm

@@ -1,27 +1,26 @@
 -- What follows of what is out: it keeps what it has until it is given back, is out no more then, and its mark is looked at.
-use Rattle.std.proofs.Common.{◌≡◌, ℕ, ◌+◌, ◌*◌, ◌<◌, ◌≤◌, Bool, true, false, cond, ltb, ◌⊎◌, List, [], ◌∷◌, ◌++◌, length, replicate, is_some, Some, None, Option, sym, refl, ap, ◌∙◌, subst, inl, inr, arith}
+use Rattle.std.proofs.Common.{◌≡◌, ℕ, ◌+◌, ◌≤◌, Bool, true, false, cond, ltb, ◌⊎◌, List, ◌++◌, length, replicate, is_some, Some, None, sym, refl, ap, ◌∙◌, subst, inl, inr, arith}
 use lib.ListN.{length-replicate}
-use Rattle.std.specs.List.{ContainsAt as Has, AllByRecursion as All}
+use Rattle.std.specs.List.{ContainsAt as Has}
 use Rattle.std.proofs.ByRecursion.{has_append_left, All-weaker, all_has_itself}
-use Rattle.std.proofs.lemmas.Bool.{and_from, lt-ltb, cond-true, cond-false, true≢false, false≢true}
+use Rattle.std.proofs.lemmas.Bool.{and_from, lt-ltb, cond-true, cond-false, true≢false}
 use Rattle.grounds.specs.declared.block.Block.{Block}
 use Rattle.grounds.specs.declared.event.Event.{Event}
 use Rattle.grounds.specs.declared.event.Event.TheVariants.{Give}
 use Rattle.grounds.specs.declared.answer.Refusal.TheVariants.{OutOfRange, NotOut}
 use Rattle.grounds.specs.declared.answer.Answer.{Answer}
 use Rattle.grounds.specs.declared.answer.Answer.TheVariants.{Done, Overrun}
-use Rattle.grounds.specs.Numbers.{page, mark_length, word}
-use Rattle.grounds.specs.Lists.{every, part, over}
-use Rattle.grounds.specs.Blocks.{Limits, ground_size, room_for, apart}
+use Rattle.grounds.specs.Numbers.{word}
+use Rattle.grounds.specs.Lists.{part}
+use Rattle.grounds.specs.Blocks.{Limits, room_for}
 use Rattle.grounds.specs.Events.{readable}
 use Rattle.grounds.specs.Grounds.{State, all_blocks, find, without, got_at, mark_place, marked, turned, turned_by, good_fields}
 use Rattle.grounds.specs.Worlds.{GoodLimits, Program}
 use Rattle.grounds.specs.Promises.{Right}
 use Rattle.grounds.specs.Statements.{Laid_out, OutKeeps, BackOnce, MarkTells, FoundExactly}
-use Rattle.grounds.proofs.Lists.{every_has}
 use Rattle.grounds.proofs.Parts.{part_over_out}
 use Rattle.grounds.proofs.Found.{find_at, find_has, find_past, find_without, find_none}
-use Rattle.grounds.proofs.Apart.{Apart, Lies, apart_tells}
+use Rattle.grounds.proofs.Apart.{Apart, Lies}
 use Rattle.grounds.proofs.Happened.{Happened, turns_away, gets, spoils, gives, overruns, sizes, looks_overrun, looks_harmed, looks_whole, happened, give_taken}
 use Rattle.grounds.proofs.Laid.{got_laid, first_lies, others_apart, others_elsewhere}
 use Rattle.grounds.proofs.Kept.{Kept, found_first, found_lies, mark_inside, block_inside, lived_kept}

@@ -1,7 +1,7 @@
 -- What can have happened where an event was answered rightly: the cases of `RightStep`, each with what it says.
 --     Asked l n                 n bytes are a size that is in range
 --     Happened l s g e x h t    e was answered by x, the ground went from g to h, and the pieces from s to t
-use Rattle.std.proofs.Common.{◌≡◌, ℕ, ◌<◌, ◌≤◌, Bool, true, false, cond, ◌&&◌, ◌||◌, ltb, leb, List, [], ◌∷◌, replicate, is_some, Some, None, Option, unwrap_or, sym, refl, ap, ◌∙◌, subst}
+use Rattle.std.proofs.Common.{◌≡◌, ℕ, ◌<◌, ◌≤◌, Bool, true, false, cond, ◌&&◌, ltb, leb, List, ◌∷◌, replicate, is_some, Some, None, Option, unwrap_or, sym, refl, ap, ◌∙◌, subst}
 use mathlib.Core.Path.{subst₃}
 use Rattle.std.proofs.lemmas.Bool.{and_parts, ltb-true, leb-true, true≢false}
 use Rattle.grounds.specs.declared.block.Block.{Block}
@@ -12,7 +12,7 @@ use Rattle.grounds.specs.declared.answer.Refusal.TheVariants.{NotOut, NoRoom, Ou
 use Rattle.grounds.specs.declared.answer.Answer.{Answer}
 use Rattle.grounds.specs.declared.answer.Answer.TheVariants.{Refused, Done, Place, Number, Overrun, Harmed, Whole}
 use Rattle.grounds.specs.Lists.{over}
-use Rattle.grounds.specs.Blocks.{Limits, ground_size, class_of, may_be, some_place}
+use Rattle.grounds.specs.Blocks.{Limits, ground_size, may_be, some_place}
 use Rattle.grounds.specs.Grounds.{State, all_blocks, find, without, out_at, got_at, rest_one, mark_place, marked, turned, turned_by, good_fields, place_of, after, ground_after, byte_whole, all_whole, clean_there}
 use Rattle.grounds.specs.Worlds.{Program, World, asked}
 use Rattle.grounds.specs.Promises.{RightAnswer, RightStep}

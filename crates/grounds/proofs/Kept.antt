@@ -1,15 +1,14 @@
 -- What every lived world keeps: the pieces are laid out, and the ground has its length and bytes.
-use Rattle.std.proofs.Common.{◌≡◌, ℕ, ◌+◌, ◌*◌, ◌<◌, ◌≤◌, Bool, true, ltb, List, [], ◌∷◌, ◌++◌, length, replicate, Some, sym, refl, ap, ◌∙◌, subst, arith}
+use Rattle.std.proofs.Common.{◌≡◌, ℕ, ◌+◌, ◌≤◌, Bool, true, ltb, List, ◌∷◌, ◌++◌, length, replicate, Some, refl, ◌∙◌, arith}
 use lib.ListN.{length-replicate}
-use Rattle.std.specs.List.{ContainsAt as Has, AllByRecursion as All}
-use Rattle.std.proofs.ByRecursion.{All-weaker, has_append_left}
+use Rattle.std.proofs.ByRecursion.{All-weaker}
 use Rattle.std.proofs.lemmas.Bool.{lt-ltb}
 use Rattle.grounds.specs.declared.block.Block.{Block}
 use Rattle.grounds.specs.declared.event.Event.{Event}
 use Rattle.grounds.specs.declared.answer.Answer.{Answer}
-use Rattle.grounds.specs.Numbers.{page, mark_length, byte}
+use Rattle.grounds.specs.Numbers.{byte}
 use Rattle.grounds.specs.Lists.{over, bytes}
-use Rattle.grounds.specs.Blocks.{Limits, ground_size, room_for, may_be}
+use Rattle.grounds.specs.Blocks.{Limits, ground_size, may_be}
 use Rattle.grounds.specs.Grounds.{State, new_state, all_blocks, find, without, got_at, mark_place}
 use Rattle.grounds.specs.Worlds.{GoodLimits, Program, World, Lived, new, asks, writes}
 use Rattle.grounds.specs.Promises.{Right}

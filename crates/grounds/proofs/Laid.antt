@@ -1,5 +1,5 @@
 -- Nobody is given what another has: pieces that are laid out stay so, whatever is asked, where it is answered rightly.
-use Rattle.std.proofs.Common.{◌≡◌, ℕ, ◌+◌, ◌*◌, ◌/◌, ◌%◌, ◌<◌, ◌≤◌, Bool, true, false, ◌&&◌, ◌||◌, eqb, ltb, leb, ◌⊎◌, List, [], ◌∷◌, ◌++◌, Some, sym, refl, ap, ◌∙◌, subst, inl, inr, append_assoc, add-zero, mul_assoc, arith}
+use Rattle.std.proofs.Common.{◌≡◌, ℕ, ◌+◌, ◌*◌, ◌/◌, ◌%◌, ◌<◌, ◌≤◌, Bool, true, false, ◌&&◌, ◌||◌, eqb, ltb, ◌⊎◌, List, [], ◌∷◌, ◌++◌, Some, sym, refl, ap, ◌∙◌, subst, inl, inr, append_assoc, add-zero, mul_assoc, arith}
 use native.Mathlib.Nat.{mul-mod_left}
 use Rattle.std.specs.List.{ContainsAt as Has}
 use Rattle.std.proofs.lemmas.Nat.{div-add-mod'}
@@ -9,7 +9,7 @@ use Rattle.grounds.specs.declared.event.Event.{Event}
 use Rattle.grounds.specs.declared.answer.Answer.{Answer}
 use Rattle.grounds.specs.Numbers.{page, grain}
 use Rattle.grounds.specs.Lists.{every, each_pair}
-use Rattle.grounds.specs.Blocks.{Limits, ground_size, class_of, large, room_for, apart, may_be}
+use Rattle.grounds.specs.Blocks.{Limits, class_of, large, room_for, apart, may_be}
 use Rattle.grounds.specs.Grounds.{State, all_blocks, find, without, got_at}
 use Rattle.grounds.specs.Worlds.{GoodLimits}
 use Rattle.grounds.specs.Statements.{is_laid, share_well, Laid_out}
@@ -18,7 +18,7 @@ use Rattle.grounds.proofs.Bags.{Bag, every_bag, pair_bag, to_second, to_third}
 use Rattle.grounds.proofs.Found.{found}
 use Rattle.grounds.proofs.Classes.{class_fits, room_has, room_large, room_small, same_room_small}
 use Rattle.grounds.proofs.Apart.{Apart, apart_tells, apart_from, not_apart, apart_swaps, SmallThere, may_small, LargeThere, may_large, Lies, lies, laid}
-use Rattle.grounds.proofs.Happened.{Asked, Happened, turns_away, gets, spoils, gives, overruns, sizes, looks_overrun, looks_harmed, looks_whole}
+use Rattle.grounds.proofs.Happened.{Happened, turns_away, gets, spoils, gives, overruns, sizes, looks_overrun, looks_harmed, looks_whole}
 
 pub none_laid : (l : Limits) → Laid_out l []
 none_laid l = record { no_shared_byte = refl; all_laid = refl; pages_of_one = λ p. refl }

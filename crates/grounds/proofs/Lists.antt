@@ -1,8 +1,8 @@
 -- Lemmas on the tests of specs/Lists.antt: `every`, `any`, `each_pair` and `same`.
-use Rattle.std.proofs.Common.{◌≡◌, ℕ, zero, suc, ◌<◌, Bool, true, false, not, ◌&&◌, ◌||◌, eqb, ltb, ◌⊎◌, List, [], ◌∷◌, ◌++◌, length, get_or, take, drop, replicate, sym, refl, ap, ◌∙◌, subst, inl, inr, ⊎_elim, arith}
+use Rattle.std.proofs.Common.{◌≡◌, ℕ, zero, suc, ◌<◌, Bool, true, false, ◌&&◌, ◌||◌, eqb, ltb, ◌⊎◌, List, [], ◌∷◌, ◌++◌, length, get_or, take, drop, replicate, sym, refl, ◌∙◌, subst, inl, inr, ⊎_elim, arith}
 use Rattle.std.specs.List.{ContainsAt as Has, AllByRecursion as All}
 use Rattle.std.proofs.ByRecursion.{all-has, All-get_or, All-from_get_or, All-weaker, all_has_itself}
-use Rattle.std.proofs.lemmas.Bool.{and_parts, and_from, or_parts, or_from, lt-ltb, ltb-true, eq-eqb, eqb-true, false≢true, true≢false, both_ways}
+use Rattle.std.proofs.lemmas.Bool.{and_parts, and_from, or_parts, lt-ltb, eq-eqb, eqb-true, false≢true, true≢false, both_ways}
 use Rattle.grounds.specs.Numbers.{byte}
 use Rattle.grounds.specs.Lists.{every, any, each_pair, same, bytes}
 

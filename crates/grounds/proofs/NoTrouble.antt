@@ -2,10 +2,9 @@
 -- changed, and each byte is 0 that is in nothing that is out.
 --     Beyond x bs      x is in no piece of bs
 --     Well l s g       nothing is spoilt, the marks are there, and what is in nothing that is out is 0
-use Rattle.std.proofs.Common.{◌≡◌, ℕ, zero, suc, ◌+◌, ◌-◌, ◌*◌, ◌<◌, ◌≤◌, Bool, true, false, not, ◌&&◌, ◌||◌, eqb, ltb, leb, ◌⊎◌, List, [], ◌∷◌, ◌++◌, length, get_or, replicate, Some, sym, refl, ap, ◌∙◌, subst, inl, inr, ⊎_elim, append-nil, arith}
+use Rattle.std.proofs.Common.{◌≡◌, ℕ, zero, suc, ◌+◌, ◌-◌, ◌<◌, ◌≤◌, Bool, true, false, ◌&&◌, eqb, ltb, leb, ◌⊎◌, List, [], ◌∷◌, ◌++◌, length, get_or, replicate, Some, sym, refl, ◌∙◌, subst, inl, inr, ⊎_elim, arith}
 use lib.ListN.{length-replicate}
 use Rattle.std.specs.List.{ContainsAt as Has}
-use Rattle.std.proofs.lemmas.List.{get_or-replicate}
 use Rattle.std.proofs.ByRecursion.{has_append_left, has_append_right}
 use Rattle.std.proofs.lemmas.Bool.{and_parts, and_from, and_cases, or_left, or_right, leb-true, leb-false, ltb-false, eq-eqb, cases_Bool, cases_lt, both_ways}
 use Rattle.std.proofs.lemmas.Bool.Decides.{Decides-below_and}
@@ -13,17 +12,17 @@ use Rattle.grounds.specs.declared.block.Block.{Block}
 use Rattle.grounds.specs.declared.event.Event.{Event}
 use Rattle.grounds.specs.declared.answer.Answer.{Answer}
 use Rattle.grounds.specs.Numbers.{mark_length}
-use Rattle.grounds.specs.Lists.{every, any, each_pair, same, part, over, all_zero, bytes}
+use Rattle.grounds.specs.Lists.{same, part, over, bytes}
 use Rattle.grounds.specs.Blocks.{Limits, ground_size, room_for, apart, may_be}
 use Rattle.grounds.specs.Events.{is_harm}
 use Rattle.grounds.specs.Grounds.{State, new_state, all_blocks, find, without, got_at, mark_place, marked, clean_there, is_inside, byte_whole, bytes_whole, marks_whole, all_whole}
-use Rattle.grounds.specs.Worlds.{GoodLimits, Program, World, Lived, LivedWell, new, asks, writes, may_write}
+use Rattle.grounds.specs.Worlds.{GoodLimits, Program, World, Lived, LivedWell, new, asks, writes}
 use Rattle.grounds.specs.Promises.{Right}
 use Rattle.grounds.specs.Statements.{is_laid, Laid_out, NoTrouble}
 use Rattle.grounds.proofs.Lists.{every_has, every_from_has, any_true, any_false, same_refl, has_here, has_later, has_cases, has_parts, pair_of}
-use Rattle.grounds.proofs.Parts.{get_or_over_in, get_or_over_out, part_over_in, part_over_out, length_part_le, get_d_part, length_over, bytes_over, zero_from_reads}
+use Rattle.grounds.proofs.Parts.{get_or_over_in, get_or_over_out, part_over_in, part_over_out, length_part_le, get_d_part, zero_from_reads}
 use Rattle.grounds.proofs.Found.{found, find_at, find_has}
-use Rattle.grounds.proofs.Apart.{Apart, apart_tells, apart_from, apart_swaps, Lies, lies}
+use Rattle.grounds.proofs.Apart.{Apart, apart_tells, apart_swaps, Lies, lies}
 use Rattle.grounds.proofs.Happened.{Happened, turns_away, gets, spoils, gives, overruns, sizes, looks_overrun, looks_harmed, looks_whole, happened, one_out, one_rests}
 use Rattle.grounds.proofs.Laid.{got_laid, first_lies, others_apart}
 use Rattle.grounds.proofs.Kept.{Kept, found_first, mark_inside, block_inside, new_kept, step_kept, write_kept}

@@ -1,5 +1,5 @@
 -- What is spoilt stays so: that very piece, and it is found where it was.
-use Rattle.std.proofs.Common.{◌≡◌, ℕ, Bool, List, [], ◌∷◌, ◌++◌, Some, sym, refl, ◌∙◌}
+use Rattle.std.proofs.Common.{◌≡◌, ℕ, Bool, List, ◌++◌, Some, sym, ◌∙◌}
 use Rattle.std.specs.List.{ContainsAt as Has}
 use Rattle.std.proofs.ByRecursion.{has_append_right}
 use Rattle.grounds.specs.declared.block.Block.{Block}

@@ -8,7 +8,7 @@
 --     page_is_of p c bs whether all pieces that touch the page p take c
 --     may_be l n a bs   whether a piece of n bytes may begin at a, beside the pieces bs
 --     some_place l n bs k      whether it may begin at some place below k
-use Rattle.std.specs.Prelude.{ℕ, zero, suc, ◌+◌, ◌-◌, ◌*◌, ◌/◌, ◌%◌, Bool, true, false, cond, ◌&&◌, ◌||◌, List, [], ◌∷◌, ◌==◌, nat_le, nat_lt}
+use Rattle.std.specs.Prelude.{ℕ, zero, suc, ◌+◌, ◌-◌, ◌*◌, ◌/◌, ◌%◌, Bool, false, cond, ◌&&◌, ◌||◌, List, [], ◌∷◌, ◌==◌, nat_le, nat_lt}
 use Rattle.grounds.specs.declared.block.Block.{Block}
 use Rattle.grounds.specs.Numbers.{page, mark_length, page_words, rest_words, fixed_words}
 use Rattle.grounds.specs.Lists.{every}

@@ -5,7 +5,7 @@
 --     fits n            whether eight bytes hold n
 --     readable e        whether bytes can carry what e carries; answer_fits x, the same of an answer
 --     is_harm x         whether an answer tells of harm: overrun or harmed
-use Rattle.std.specs.Prelude.{ℕ, Bool, true, false, ◌&&◌, ◌||◌, List, [], ◌∷◌, ◌==◌, nat_lt}
+use Rattle.std.specs.Prelude.{ℕ, Bool, ◌||◌, List, [], ◌∷◌, ◌==◌, nat_lt}
 use Rattle.grounds.specs.declared.event.Event.{Event}
 use Rattle.grounds.specs.declared.event.Event.TheVariants.{Get, Give, Size, Look, Garbled}
 use Rattle.grounds.specs.declared.answer.Refusal.{Refusal}

@@ -3,7 +3,7 @@
 --     RightAnswer l s g e x      x is a right answer to e, where the pieces are s and the ground is g
 --     TurnedAway f m g e r       f turns e away for the reason r, and changes nothing
 --     thin, all                   what the first stage can do, and what the whole keeper can
-use Rattle.std.specs.Prelude.{◌≡◌, ℕ, ◌<◌, Bool, true, false, cond, List, [], ◌∷◌, ◌++◌, length, take, Some, None, ◌≢◌, nat_lt}
+use Rattle.std.specs.Prelude.{◌≡◌, ℕ, ◌<◌, Bool, true, false, cond, List, ◌∷◌, ◌++◌, length, take, Some, None, ◌≢◌, nat_lt}
 use Rattle.grounds.specs.declared.block.Block.{Block}
 use Rattle.grounds.specs.declared.event.Event.{Event}
 use Rattle.grounds.specs.declared.event.Event.TheVariants.{Get, Give, Size, Look, Garbled}

@@ -1,11 +1,11 @@
 -- What follows for a keeper whose answers are right, however it works: each is a statement, a type whose proof is owed. Assumes nothing.
 --     Laid_out l bs         no two pieces share a byte, all are where a piece may be, and a page has pieces of one class or one large piece
 --     ChangedBy l s e x a  the byte at a is one that an event e, answered by x, may change
-use Rattle.std.specs.Prelude.{◌≡◌, ℕ, ◌+◌, ◌*◌, ◌/◌, ◌%◌, ◌<◌, ◌≤◌, Bool, true, false, cond, ◌&&◌, ◌||◌, ◌⊎◌, List, [], ◌∷◌, ◌++◌, length, Some, None, ◌==◌, ◌≢◌, nat_eq, nat_le, nat_lt, slice_index}
+use Rattle.std.specs.Prelude.{◌≡◌, ℕ, ◌+◌, ◌*◌, ◌/◌, ◌%◌, ◌<◌, ◌≤◌, Bool, true, false, cond, ◌&&◌, ◌||◌, ◌⊎◌, List, [], ◌++◌, length, Some, None, ◌==◌, ◌≢◌, nat_eq, nat_le, nat_lt, slice_index}
 use Rattle.std.specs.List.{ContainsAt as Has}
 use Rattle.grounds.specs.declared.block.Block.{Block}
 use Rattle.grounds.specs.declared.event.Event.{Event}
-use Rattle.grounds.specs.declared.event.Event.TheVariants.{Get, Give, Size, Look, Garbled}
+use Rattle.grounds.specs.declared.event.Event.TheVariants.{Get, Give}
 use Rattle.grounds.specs.declared.answer.Answer.{Answer}
 use Rattle.grounds.specs.declared.answer.Answer.TheVariants.{Done, Place, Overrun, Harmed}
 use Rattle.grounds.specs.Numbers.{page, grain, mark_length}

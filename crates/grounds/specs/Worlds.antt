@@ -4,7 +4,7 @@
 --     Lived f l w       w is a world that f and anybody else can bring about, from an opening with the limits l on
 --     LivedWell f l w  the same, where others keep to their own: they write only in pieces that are out, and no further than was asked for
 --     GoodLimits can l limits with which an opening is taken, by a keeper that can do the events that `can` says
-use Rattle.std.specs.Prelude.{◌≡◌, ℕ, ◌+◌, ◌%◌, ◌<◌, ◌≤◌, Bool, true, false, ◌&&◌, List, [], ◌∷◌, length, replicate, ◌==◌, nat_le, nat_lt}
+use Rattle.std.specs.Prelude.{◌≡◌, ℕ, ◌+◌, ◌%◌, ◌<◌, ◌≤◌, Bool, true, ◌&&◌, List, [], ◌∷◌, length, replicate, ◌==◌, nat_le, nat_lt}
 use Rattle.std.specs.List.{AllByRecursion as All}
 use Rattle.grounds.specs.declared.block.Block.{Block}
 use Rattle.grounds.specs.declared.event.Event.{Event}

@@ -1,8 +1,7 @@
 -- Memory after an opening holds the table of a ground with no pieces.
 use Rattle.std.proofs.Common.{◌≡◌, ℕ, ◌+◌, ◌*◌, ◌/◌, ◌%◌, ◌<◌, ◌≤◌, Bool, false, not, length, get_or, sym, ap, ◌∙◌, arith}
 use Rattle.std.proofs.lemmas.List.FromFn.{fill_by_all}
-use Rattle.std.proofs.ByRecursion.{All-get_or}
-use Rattle.grounds.specs.Numbers.{page, mark_length}
+use Rattle.grounds.specs.Numbers.{mark_length}
 use Rattle.grounds.specs.Blocks.{Limits}
 use Rattle.grounds.specs.Worlds.{GoodLimits}
 use Rattle.bits.specs.Bit.{bit}

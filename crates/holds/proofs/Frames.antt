@@ -1,17 +1,15 @@
 -- What stays of a table that memory holds, where only some words have changed: those of one page, of the index, or of the queue.
-use Rattle.std.proofs.Common.{◌≡◌, ℕ, ◌+◌, ◌*◌, ◌/◌, ◌^◌, ◌<◌, ◌≤◌, Bool, true, false, cond, not, ◌&&◌, ◌||◌, eqb, ◌⊎◌, List, length, get_or, set, sym, refl, ap, ◌∙◌, subst, inl, inr, arith}
+use Rattle.std.proofs.Common.{◌≡◌, ℕ, ◌+◌, ◌*◌, ◌/◌, ◌^◌, ◌<◌, ◌≤◌, Bool, true, false, cond, not, ◌&&◌, eqb, ◌⊎◌, List, length, get_or, set, sym, refl, ap, ◌∙◌, subst, inl, inr, arith}
 use Rattle.std.specs.List.{ContainsAt as Has}
 use Rattle.std.proofs.lemmas.List.{get_or-set_same, get_or-set_other, set_past}
 use Rattle.std.proofs.lemmas.Bool.{cases_eq, cases_lt, eq-eqb, ne_eqb}
-use Rattle.std.proofs.lemmas.Bool.Decides.{nat_tests}
 use Rattle.grounds.specs.Numbers.{mark_length, most_classes}
 use Rattle.grounds.specs.Blocks.{Limits}
-use Rattle.index.specs.Index.{sets, high_words, low_at, member, Inserted, Removed}
+use Rattle.index.specs.Index.{sets, low_at, member, Inserted, Removed}
 use Rattle.index.specs.Index.{high_at as high_word_at}
 use Rattle.index.specs.Index.{Sound as IndexSound}
 use Rattle.index.proofs.Elsewhere.{Elsewhere as IndexElsewhere}
 use Rattle.index.proofs.Elsewhere.{sound_kept as index_kept, member_kept}
-use Rattle.ring.specs.declared.Ring.{Ring}
 use Rattle.ring.specs.Ring.{held}
 use Rattle.ring.specs.Ring.{Sound as RingSound}
 use Rattle.ring.specs.Ring.{Elsewhere as RingElsewhere}

@@ -1,5 +1,5 @@
 -- A piece less: memory that holds a table, after a small piece left its page, holds the table without that piece.
-use Rattle.std.proofs.Common.{◌≡◌, ℕ, ◌+◌, ◌-◌, ◌*◌, ◌/◌, ◌%◌, ◌^◌, ◌<◌, ◌≤◌, Bool, true, false, cond, not, ◌&&◌, ◌||◌, eqb, ltb, leb, ◌⊎◌, List, length, get_or, sym, refl, ap, ◌∙◌, subst, inl, inr, arith}
+use Rattle.std.proofs.Common.{◌≡◌, ℕ, ◌+◌, ◌-◌, ◌*◌, ◌/◌, ◌%◌, ◌<◌, ◌≤◌, Bool, true, false, cond, not, ◌&&◌, ◌||◌, eqb, leb, ◌⊎◌, List, length, get_or, sym, refl, ap, ◌∙◌, inl, inr, arith}
 use Rattle.std.specs.List.{ContainsAt as Has}
 use Rattle.std.proofs.lemmas.Bool.{cases_eq, cases_lt, cases_Bool, eq-eqb, ne_eqb, and_parts, and_from, lt-ltb, leb-true}
 use Rattle.std.proofs.lemmas.Bool.Decides.{nat_tests}
@@ -10,7 +10,7 @@ use Rattle.grounds.proofs.First.{first_cong, first_low}
 use Rattle.index.specs.declared.Index.{Index}
 use Rattle.index.specs.Index.{sets, inserted, removed}
 use Rattle.index.proofs.Change.{is_inserted, is_removed}
-use Rattle.units.specs.Units.{units, unit_bit}
+use Rattle.units.specs.Units.{units}
 use Rattle.units.proofs.Elsewhere.{elsewhere}
 use Rattle.layout.specs.declared.field.Field.TheVariants.{Kind, Head, Used, Class}
 use Rattle.layout.specs.Layout.{page_stride, page_at, groups, index_in, field_at, taken_at, spoilt_at, asked_at}

@@ -1,8 +1,8 @@
 -- What memory tells of what is out: whether a piece begins at a place, how much was asked for it, and how much it takes.
-use Rattle.std.proofs.Common.{◌≡◌, ℕ, ◌+◌, ◌*◌, ◌/◌, ◌%◌, ◌<◌, ◌≤◌, Bool, true, false, cond, ◌&&◌, eqb, ltb, leb, ◌⊎◌, List, ◌++◌, length, get_or, Some, None, Option, unwrap_or, sym, refl, ap, ◌∙◌, subst, inl, inr, arith}
+use Rattle.std.proofs.Common.{◌≡◌, ℕ, ◌+◌, ◌*◌, ◌/◌, ◌%◌, ◌<◌, ◌≤◌, Bool, true, false, ◌&&◌, eqb, ltb, leb, ◌⊎◌, List, ◌++◌, Some, None, Option, unwrap_or, sym, refl, ap, ◌∙◌, subst, inl, inr, arith}
 use Rattle.std.specs.List.{ContainsAt as Has}
 use Rattle.std.proofs.ByRecursion.{has_append_left}
-use Rattle.std.proofs.lemmas.Bool.{cases_Bool, cases_lt, lt-ltb, le-ltb, eq-eqb, ltb-true, eqb-true, and_parts, and_from, le-leb, cond-true, both_ways}
+use Rattle.std.proofs.lemmas.Bool.{cases_Bool, cases_lt, lt-ltb, le-ltb, eq-eqb, ltb-true, eqb-true, and_parts, and_from, le-leb, both_ways}
 use Rattle.grounds.specs.declared.block.Block.{Block}
 use Rattle.grounds.specs.Numbers.{page, grain, mark_length}
 use Rattle.grounds.specs.Blocks.{Limits, ground_size}
@@ -10,14 +10,12 @@ use Rattle.grounds.specs.Grounds.{State, all_blocks, find}
 use Rattle.grounds.specs.Worlds.{GoodLimits}
 use Rattle.grounds.specs.Statements.{is_laid}
 use Rattle.grounds.proofs.Lists.{every_has}
-use Rattle.grounds.proofs.Apart.{Lies, lies}
+use Rattle.grounds.proofs.Apart.{lies}
 use Rattle.grounds.proofs.Found.{find_has, find_at}
-use Rattle.table.specs.Table.{Table, unit_place}
+use Rattle.table.specs.Table.{Table}
 use Rattle.table.specs.Stands.{Stands}
-use Rattle.units.specs.Units.{units}
 use Rattle.book.specs.declared.plan.Plan.{Plan}
-use Rattle.book.specs.declared.spot.Spot.{Spot}
-use Rattle.book.specs.Plan.{plan_of, plan_good}
+use Rattle.book.specs.Plan.{plan_of}
 use Rattle.book.specs.Spots.{spot_at, is_spot, kind_in, asked_in, room_good}
 use Rattle.holds.specs.Holds.{Holds, Small}
 use Rattle.holds.proofs.Freed.{Leaving}

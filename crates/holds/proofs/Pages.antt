@@ -1,8 +1,8 @@
 -- What the words of a page are after each change of it, and that the words outside it stay.
-use Rattle.std.proofs.Common.{◌≡◌, ℕ, ◌+◌, ◌-◌, ◌*◌, ◌^◌, ◌<◌, ◌≤◌, Bool, not, ◌&&◌, ◌||◌, eqb, ◌⊎◌, List, length, get_or, set, sym, refl, ap, ◌∙◌, inl, inr, arith}
+use Rattle.std.proofs.Common.{◌≡◌, ℕ, ◌+◌, ◌-◌, ◌*◌, ◌^◌, ◌<◌, ◌≤◌, Bool, not, ◌&&◌, ◌||◌, eqb, ◌⊎◌, List, length, get_or, set, refl, ap, ◌∙◌, inl, inr, arith}
 use Rattle.std.proofs.lemmas.List.{length-set, get_or-set_same, get_or-set_other}
 use Rattle.grounds.specs.Numbers.{most_classes}
-use Rattle.units.specs.Units.{units, unit_words, unit_bit, taken, released, copied, Rest}
+use Rattle.units.specs.Units.{units, unit_words, unit_bit, Rest}
 use Rattle.units.proofs.Written.{taken_bits, taken_rest, released_bits, released_rest}
 use Rattle.units.proofs.Copied.{copied_rest, copied_bits}
 use Rattle.units.proofs.Elsewhere.{elsewhere}

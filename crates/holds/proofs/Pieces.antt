@@ -1,25 +1,23 @@
 -- What a table that stands for pieces, all small, knows of each of them.
-use Rattle.std.proofs.Common.{◌≡◌, ℕ, zero, suc, ◌+◌, ◌*◌, ◌/◌, ◌%◌, ◌<◌, ◌≤◌, Bool, true, eqb, leb, ◌⊎◌, List, [], ◌∷◌, ◌++◌, map, length, sym, refl, ap, ◌∙◌, subst, inl, inr, ⊎_elim, arith}
+use Rattle.std.proofs.Common.{◌≡◌, ℕ, ◌+◌, ◌*◌, ◌/◌, ◌%◌, ◌<◌, ◌≤◌, true, eqb, leb, ◌⊎◌, List, [], ◌∷◌, map, sym, refl, ◌∙◌, inl, inr, ⊎_elim, arith}
 use native.Mathlib.Nat.{zero-mod}
 use Rattle.std.specs.List.{ContainsAt as Has}
 use Rattle.std.proofs.ByRecursion.{all-has}
 use Rattle.std.proofs.lemmas.Bool.{cases_lt, eq-eqb, le-leb, and_from}
 use Rattle.grounds.specs.declared.block.Block.{Block}
 use Rattle.grounds.specs.Numbers.{page, grain}
-use Rattle.grounds.specs.Blocks.{Limits, ground_size, class_of}
+use Rattle.grounds.specs.Blocks.{Limits, class_of}
 use Rattle.grounds.specs.Grounds.{State, all_blocks}
 use Rattle.grounds.specs.Worlds.{rising}
 use Rattle.grounds.specs.Statements.{is_laid}
 use Rattle.grounds.proofs.Lists.{every_has, has_here, has_later, has_cases}
-use Rattle.grounds.proofs.Classes.{room_large, large_some_pages}
+use Rattle.grounds.proofs.Classes.{room_large}
 use Rattle.grounds.proofs.Apart.{Lies, lies}
-use Rattle.table.specs.Table.{Table, touches, fits}
-use Rattle.table.specs.Stands.{Knows, Pieces, Stands}
+use Rattle.table.specs.Table.{Table, touches}
+use Rattle.table.specs.Stands.{Knows, Stands}
 use Rattle.table.proofs.Counts.{count_some}
 use Rattle.table.proofs.Looks.{count_has}
 use Rattle.table.proofs.Touch.{touches_own}
-use Rattle.units.specs.Units.{units}
-use Rattle.book.specs.declared.spot.Spot.{Spot}
 use Rattle.book.specs.Spots.{place_of_spot, spot_at}
 use Rattle.holds.specs.Holds.{Small}
 use Rattle.holds.proofs.Rising.{OfClass, classes_are}

@@ -1,18 +1,18 @@
 -- How much was asked, what is spoilt, and another queue: memory that holds a table, after such a change, holds the table with it.
-use Rattle.std.proofs.Common.{◌≡◌, ℕ, ◌+◌, ◌*◌, ◌^◌, ◌<◌, ◌≤◌, Bool, true, false, cond, not, ◌||◌, eqb, ◌⊎◌, List, length, get_or, sym, refl, ap, ◌∙◌, inl, inr, zero-add, arith}
+use Rattle.std.proofs.Common.{◌≡◌, ℕ, ◌+◌, ◌^◌, ◌<◌, ◌≤◌, true, false, not, ◌||◌, eqb, ◌⊎◌, List, length, get_or, sym, refl, ap, ◌∙◌, inl, inr, zero-add, arith}
 use Rattle.std.proofs.lemmas.Bool.{cases_eq, eq-eqb, ne_eqb}
-use Rattle.grounds.specs.Numbers.{page, grain, most_classes}
+use Rattle.grounds.specs.Numbers.{most_classes}
 use Rattle.grounds.specs.Blocks.{Limits}
 use Rattle.units.specs.Units.{units, unit_words, unit_bit}
 use Rattle.units.proofs.Elsewhere.{elsewhere}
 use Rattle.layout.specs.declared.field.Field.TheVariants.{Kind, Head, Used, Class}
 use Rattle.layout.specs.Layout.{page_stride, page_at, field_at, taken_at, spoilt_at, asked_at}
-use Rattle.table.specs.Table.{Table, sized, marked_spoilt, queued, one_if, unit_place, free_unit}
+use Rattle.table.specs.Table.{Table, sized, marked_spoilt, unit_place, free_unit}
 use Rattle.book.specs.declared.spot.Spot.{Spot}
 use Rattle.book.specs.Spots.{place_of_spot}
 use Rattle.book.specs.Changes.{sized_in, spoilt_in}
-use Rattle.holds.specs.Holds.{Page, in_set, Parts, Sets, Holds}
-use Rattle.holds.proofs.Frames.{SamePage, OutsidePage, parts_by_page, sets_by_page}
+use Rattle.holds.specs.Holds.{Page, in_set, Holds}
+use Rattle.holds.proofs.Frames.{SamePage, parts_by_page, sets_by_page}
 use Rattle.holds.proofs.Pages.{sized_outside, sized_word, sized_asked, spoilt_outside, spoilt_word, spoilt_bits}
 
 module _ (l : Limits) (t : Table) (m : List ℕ) (s : Spot) (few : length l.classes ≤ most_classes) (h : Holds l t m) (page_in : s.page < l.pages)

@@ -1,5 +1,5 @@
 -- What the header of memory tells, where memory holds a table, is what the limits say: the plan, and the class of a size.
-use Rattle.std.proofs.Common.{◌≡◌, ℕ, zero, suc, ◌+◌, ◌*◌, ◌%◌, ◌<◌, ◌≤◌, Bool, true, ◌&&◌, ltb, leb, ◌⊎◌, List, [], ◌∷◌, length, get_or, sym, ap, ◌∙◌, subst, inl, inr, arith}
+use Rattle.std.proofs.Common.{◌≡◌, ℕ, ◌+◌, ◌*◌, ◌<◌, ◌≤◌, Bool, true, ◌&&◌, ltb, leb, ◌⊎◌, List, length, get_or, sym, ap, ◌∙◌, subst, inl, inr, arith}
 use Rattle.std.proofs.ByRecursion.{All-weaker}
 use Rattle.std.proofs.lemmas.List.{get_or_past}
 use Rattle.std.proofs.lemmas.Bool.{and_parts, and_from, cases_lt, le-leb, lt-leb, lt-ltb, ltb-true, cond-true, cond-false}
@@ -7,7 +7,7 @@ use Rattle.std.proofs.lemmas.Bool.Decides.{nat_tests}
 use Rattle.grounds.specs.Numbers.{page, grain, mark_length, byte}
 use Rattle.grounds.specs.Lists.{every}
 use Rattle.grounds.specs.Blocks.{Limits, ground_size, class_of}
-use Rattle.grounds.specs.Worlds.{rising, GoodLimits}
+use Rattle.grounds.specs.Worlds.{GoodLimits}
 use Rattle.grounds.proofs.Lists.{every_from_all}
 use Rattle.grounds.proofs.Classes.{class_has, class_fits}
 use Rattle.units.specs.Units.{units}

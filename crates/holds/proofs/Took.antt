@@ -1,12 +1,12 @@
 -- A piece more: memory that holds a table, after a piece was put at a free unit of a page of its class, holds the table with that piece.
-use Rattle.std.proofs.Common.{◌≡◌, ℕ, ◌+◌, ◌-◌, ◌*◌, ◌/◌, ◌%◌, ◌^◌, ◌<◌, ◌≤◌, Bool, true, false, cond, not, ◌&&◌, ◌||◌, eqb, ltb, leb, ◌⊎◌, List, length, get_or, set, sym, refl, ap, ◌∙◌, subst, inl, inr, zero-add, arith}
+use Rattle.std.proofs.Common.{◌≡◌, ℕ, ◌+◌, ◌*◌, ◌%◌, ◌^◌, ◌<◌, ◌≤◌, Bool, true, false, cond, not, ◌&&◌, ◌||◌, eqb, ltb, leb, ◌⊎◌, List, length, get_or, sym, refl, ap, ◌∙◌, subst, inl, inr, zero-add, arith}
 use Rattle.std.specs.List.{ContainsAt as Has}
 use Rattle.std.proofs.ByRecursion.{has_get_or}
-use Rattle.std.proofs.lemmas.Bool.{cases_eq, cases_lt, cases_Bool, eq-eqb, ne_eqb, eqb-true, and_parts, and_from, lt-ltb, le-ltb, leb-true, not-true, not-false}
+use Rattle.std.proofs.lemmas.Bool.{cases_eq, cases_lt, cases_Bool, eq-eqb, ne_eqb, and_parts, and_from, lt-ltb, leb-true}
 use Rattle.std.proofs.lemmas.Bool.Decides.{nat_tests}
 use Rattle.grounds.specs.declared.block.Block.{Block}
 use Rattle.grounds.specs.Numbers.{page, grain, most_classes}
-use Rattle.grounds.specs.Blocks.{Limits, apart}
+use Rattle.grounds.specs.Blocks.{Limits}
 use Rattle.grounds.specs.Worlds.{rising}
 use Rattle.index.specs.declared.Index.{Index}
 use Rattle.index.specs.Index.{sets, inserted, removed}
@@ -14,7 +14,7 @@ use Rattle.index.proofs.Change.{is_inserted, is_removed}
 use Rattle.units.specs.Units.{units, unit_bit, first_free, full}
 use Rattle.units.proofs.Elsewhere.{elsewhere}
 use Rattle.layout.specs.declared.field.Field.TheVariants.{Kind, Head, Used, Class}
-use Rattle.layout.specs.Layout.{templates_at, page_stride, page_at, groups, index_in, field_at, taken_at, spoilt_at, asked_at}
+use Rattle.layout.specs.Layout.{page_stride, page_at, groups, index_in, field_at, taken_at, spoilt_at, asked_at}
 use Rattle.table.specs.Table.{Table, touches, placed, one_if, fits, unit_place, free_unit}
 use Rattle.book.specs.declared.class.Class.{Class as ClassOf}
 use Rattle.book.specs.declared.spot.Spot.{Spot}

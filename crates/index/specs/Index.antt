@@ -15,7 +15,7 @@
 --     in_either, LowestPage      whether a page is in one of two sets; what holds of the lowest that is
 --     FirstOf                    the same of an answer: there is no such page, or it is the lowest
 --     Cleared                     what holds of memory in which every word of both levels is 0
-use Rattle.std.specs.Prelude.{◌≡◌, ℕ, ◌+◌, ◌*◌, ◌/◌, ◌%◌, ◌^◌, ◌<◌, ◌≤◌, Bool, true, false, cond, not, ◌||◌, ltb, List, length, set, Some, None, Option, MatchOption, ◌==◌, ◌≢◌, bit_or, nat_lt, slice_index, slice_set}
+use Rattle.std.specs.Prelude.{◌≡◌, ℕ, ◌+◌, ◌*◌, ◌/◌, ◌%◌, ◌^◌, ◌<◌, ◌≤◌, Bool, true, false, cond, not, ◌||◌, ltb, List, length, Some, None, Option, MatchOption, ◌==◌, ◌≢◌, bit_or, nat_lt, slice_index, slice_set}
 use Rattle.grounds.specs.Lists.{first}
 use Rattle.grounds.specs.Numbers.{most_pages}
 use Rattle.bits.specs.Bit.{bit, with_bit, without_bit, lowest_bit}

@@ -1,5 +1,7 @@
 // Sets of page numbers, kept in lent memory as bits in two levels: a low word has the pages of one group of 64, and a high word says which low words aren't 0.
 // So the lowest page of a set is found in at most 16 turns of a loop and two countings of zeros.
+#![tactic(auto)]
+
 ghost use Rattle.std.specs.Prelude.{◌≡◌, ◌^◌, ◌<◌, ◌≤◌};
 ghost use Rattle.index.specs.Index.{high_at, high_words, low_at, sets};
 

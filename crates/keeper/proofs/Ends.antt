@@ -1,34 +1,24 @@
 -- A size, and a give back: each goes by the table.
-use Rattle.std.proofs.Common.{◌≡◌, ℕ, ◌+◌, ◌-◌, ◌*◌, ◌/◌, ◌%◌, ◌<◌, ◌≤◌, Bool, true, false, cond, ◌&&◌, eqb, ltb, ◌⊎◌, List, [], ◌∷◌, ◌++◌, map, length, take, drop, replicate, Some, None, fold, Option, sym, refl, ap, ◌∙◌, subst, ap₂, inl, inr, arith}
-use Rattle.std.specs.List.{ContainsAt as Has}
-use Rattle.std.proofs.ByRecursion.{has_append_left, has_append_right}
-use Rattle.std.proofs.lemmas.List.{length-map}
+use Rattle.std.proofs.Common.{◌≡◌, ℕ, ◌<◌, ◌≤◌, Bool, true, false, cond, ltb, ◌⊎◌, List, length, replicate, Some, None, sym, refl, ap, ◌∙◌, inl, inr}
 use Rattle.std.proofs.lemmas.Bool.{cases_Bool, cases_lt, lt-ltb, le-ltb, cond-true, cond-false}
 use Rattle.grounds.specs.declared.block.Block.{Block}
-use Rattle.grounds.specs.declared.event.Event.{Event}
 use Rattle.grounds.specs.declared.event.Event.TheVariants.{Give, Size}
-use Rattle.grounds.specs.declared.answer.Refusal.{Refusal}
 use Rattle.grounds.specs.declared.answer.Refusal.TheVariants.{OutOfRange, NotOut}
-use Rattle.grounds.specs.declared.answer.Answer.TheVariants.{Refused, Done, Number, Overrun}
-use Rattle.grounds.specs.Numbers.{page, grain, mark_length}
+use Rattle.grounds.specs.declared.answer.Answer.TheVariants.{Done, Number, Overrun}
+use Rattle.grounds.specs.Numbers.{mark_length}
 use Rattle.grounds.specs.Lists.{same, part, over}
 use Rattle.grounds.specs.Blocks.{Limits, ground_size}
-use Rattle.grounds.specs.Events.{event_number}
-use Rattle.grounds.specs.Grounds.{State, all_blocks, mark_place, marked, good_fields, place_of}
+use Rattle.grounds.specs.Grounds.{State, mark_place, marked, good_fields, place_of}
 use Rattle.grounds.specs.Worlds.{GoodLimits}
 use Rattle.grounds.specs.Promises.{thin}
-use Rattle.grounds.specs.Statements.{is_laid}
-use Rattle.grounds.proofs.Lists.{every_has}
-use Rattle.grounds.proofs.Apart.{lies}
-use Rattle.table.specs.Table.{Table, known, sized, marked_spoilt, queued, released, rested}
+use Rattle.table.specs.Table.{Table, known, sized, marked_spoilt, rested}
 use Rattle.table.specs.Stands.{Stands}
 use Rattle.table.specs.Answers.{table_turned_by, table_turned, table_chosen, table_after, table_ground}
 use Rattle.book.specs.declared.plan.Plan.{Plan}
 use Rattle.book.specs.Plan.{plan_of}
 use Rattle.book.specs.declared.spot.Spot.{Spot}
-use Rattle.book.specs.Spots.{place_of_spot, spot_at, kind_in, asked_in, room_good}
+use Rattle.book.specs.Spots.{spot_at, kind_in, asked_in, room_good}
 use Rattle.book.specs.Changes.{sized_in, spoilt_in, rested_in}
-use Rattle.holds.specs.Holds.{layout_for, Holds, Small}
 use Rattle.holds.proofs.Told.{plan_told}
 use Rattle.holds.proofs.Outs.{out_asked, out_right, kind_told, room_told}
 use Rattle.holds.proofs.Ended.{overrun_holds, given_holds, given_small}

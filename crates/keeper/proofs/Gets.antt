@@ -1,36 +1,27 @@
 -- A get goes by the table: the class of the size, the lowest spot of that class, and what becomes of memory there.
-use Rattle.std.proofs.Common.{◌≡◌, ℕ, ◌+◌, ◌-◌, ◌*◌, ◌/◌, ◌%◌, ◌^◌, ◌<◌, ◌≤◌, Bool, true, false, cond, ◌&&◌, ◌||◌, eqb, ltb, leb, ◌⊎◌, List, length, get_or, Some, None, Option, sym, refl, ap, ◌∙◌, subst, ap₂, inl, inr, arith}
-use Rattle.std.specs.List.{ContainsAt as Has}
-use Rattle.std.proofs.ByRecursion.{has_get_or}
-use Rattle.std.proofs.lemmas.Bool.{cases_Bool, cases_lt, lt-ltb, le-ltb, ltb-true, leb-true, ne_eqb, and_parts, cond-true, cond-false}
+use Rattle.std.proofs.Common.{◌≡◌, ℕ, ◌+◌, ◌-◌, Bool, true, false, cond, ◌&&◌, ◌||◌, ltb, leb, ◌⊎◌, List, length, Some, None, sym, refl, ap, ◌∙◌, ap₂, inl, inr, arith}
+use Rattle.std.proofs.lemmas.Bool.{cases_Bool, cond-true, cond-false}
 use Rattle.grounds.specs.declared.block.Block.{Block}
-use Rattle.grounds.specs.declared.event.Event.{Event}
 use Rattle.grounds.specs.declared.event.Event.TheVariants.{Get}
-use Rattle.grounds.specs.declared.answer.Refusal.{Refusal}
 use Rattle.grounds.specs.declared.answer.Refusal.TheVariants.{OutOfRange, NoRoom}
-use Rattle.grounds.specs.declared.answer.Answer.{Answer}
 use Rattle.grounds.specs.declared.answer.Answer.TheVariants.{Place, Harmed}
-use Rattle.grounds.specs.Numbers.{page, mark_length}
+use Rattle.grounds.specs.Numbers.{mark_length}
 use Rattle.grounds.specs.Lists.{part, over, all_zero}
 use Rattle.grounds.specs.Blocks.{Limits, ground_size, class_of, room_for}
 use Rattle.grounds.specs.Grounds.{State, got_at, mark_place, good_fields, place_of, clean_there}
 use Rattle.grounds.specs.Worlds.{GoodLimits}
 use Rattle.grounds.specs.Promises.{thin}
-use Rattle.grounds.proofs.Classes.{room_small}
-use Rattle.table.specs.Table.{Table, touches, placed, sized, marked_spoilt, found_small}
+use Rattle.table.specs.Table.{Table, placed, sized, marked_spoilt}
 use Rattle.table.specs.Stands.{Stands}
 use Rattle.table.specs.Runs.{found}
 use Rattle.table.specs.Answers.{table_turned_by, table_turned, table_chosen, table_after, table_ground}
-use Rattle.layout.specs.declared.layout.Layout.{Layout}
-use Rattle.layout.specs.Layout.{index_in}
-use Rattle.units.specs.Units.{units}
 use Rattle.book.specs.declared.plan.Plan.{Plan}
 use Rattle.book.specs.declared.class.Class.{Class}
 use Rattle.book.specs.declared.spot.Spot.{Spot}
 use Rattle.book.specs.Plan.{plan_of, class_of_size, has_class}
-use Rattle.book.specs.Spots.{place_of_spot, used_in, spot_in, has_spot}
-use Rattle.book.specs.Changes.{painted, filled, shelved, taken_in, sized_in, spoilt_in}
-use Rattle.holds.specs.Holds.{layout_for, Holds, Small}
+use Rattle.book.specs.Spots.{place_of_spot, spot_in, has_spot}
+use Rattle.book.specs.Changes.{taken_in, sized_in, spoilt_in}
+use Rattle.holds.specs.Holds.{Holds}
 use Rattle.holds.proofs.Told.{plan_told, class_right}
 use Rattle.holds.proofs.Lowest.{SpotFree}
 use Rattle.holds.proofs.Placed.{size_small, room_is, place_is, free, placed_holds, placed_small}

@@ -1,8 +1,8 @@
 -- The keeper is right, takes the lowest place, and has enough memory; lengths that are not as said, and openings, are answered as they should be.
-use Rattle.std.proofs.Common.{◌≡◌, ℕ, ◌+◌, ◌*◌, ◌^◌, ◌<◌, ◌≤◌, Bool, true, false, cond, ◌&&◌, eqb, ltb, leb, ◌⊎◌, List, [], ◌∷◌, ◌++◌, length, get_or, take, Some, Decides, sym, refl, ap, ◌∙◌, subst, inl, inr, arith, length-append, length-take}
+use Rattle.std.proofs.Common.{◌≡◌, ℕ, ◌+◌, ◌*◌, ◌<◌, ◌≤◌, Bool, true, false, cond, ◌&&◌, eqb, ltb, leb, ◌⊎◌, List, ◌∷◌, ◌++◌, length, get_or, take, Some, Decides, refl, ap, ◌∙◌, inl, inr, arith, length-append, length-take}
 use Rattle.std.proofs.ByRecursion.{All-weaker}
 use Rattle.std.proofs.lemmas.List.{get_or-take, get_or_append_left}
-use Rattle.std.proofs.lemmas.Bool.{cases_Bool, lt-ltb, ltb-true, leb-true, eqb-true, eq-eqb, and_parts, and_from, cond-true, cond-false}
+use Rattle.std.proofs.lemmas.Bool.{cases_Bool, lt-ltb, ltb-true, eqb-true, eq-eqb, and_parts, and_from, cond-true, cond-false}
 use Rattle.std.proofs.lemmas.Bool.Decides.{nat_tests}
 use Rattle.grounds.specs.declared.event.Event.{Event}
 use Rattle.grounds.specs.declared.event.Event.TheVariants.{Get, Give, Size, Look, Garbled}
@@ -14,19 +14,18 @@ use Rattle.grounds.specs.Lists.{every, all_below}
 use Rattle.grounds.specs.Blocks.{Limits, ground_size, memory_words}
 use Rattle.grounds.specs.Events.{readable}
 use Rattle.grounds.specs.Grounds.{State, good_fields, place_of}
-use Rattle.grounds.specs.Worlds.{rising, GoodLimits, World, Lived}
-use Rattle.grounds.specs.Promises.{thin, Right, Lowest, EnoughMemory, TurnedAway, TurnedByLength, RightLengths, unasked, MayOpen, RightOpening}
+use Rattle.grounds.specs.Worlds.{rising, GoodLimits}
+use Rattle.grounds.specs.Promises.{thin, Right, Lowest, EnoughMemory, TurnedAway, RightLengths, unasked, MayOpen, RightOpening}
 use Rattle.grounds.proofs.Lists.{every_from_get_or, every_from_all, all_from_every}
 use Rattle.table.specs.Table.{Table, new_table}
 use Rattle.table.specs.Stands.{Stands}
-use Rattle.table.specs.Answers.{table_turned_by, table_turned}
+use Rattle.table.specs.Answers.{table_turned_by}
 use Rattle.table.proofs.Keeping.{standing_right, standing_lowest, standing_memory}
 use Rattle.layout.specs.Layout.{pages_at, rests_at}
 use Rattle.opening.specs.Opening.{opened}
 use Rattle.book.specs.Plan.{plan_of, numbers_good, lengths_good, plan_good}
-use Rattle.holds.specs.Holds.{Holds}
 use Rattle.holds.proofs.AtFirst.{opened_holds, new_small}
-use Rattle.keeper.specs.Outcomes.{Outcome, away, by_plan, by_header, outcome}
+use Rattle.keeper.specs.Outcomes.{Outcome, by_plan, outcome}
 use Rattle.keeper.specs.Keeper.{limits_good, may_open, keeper}
 use Rattle.keeper.proofs.Steps.{Held, Goes, turned_away}
 use Rattle.keeper.proofs.Planned.{outcome_look}

@@ -1,1 +1,3 @@
+#![tactic(auto)]
+
 // The keeper: what is asked of it, over its memory and the ground, both lent.

@@ -1,5 +1,7 @@
 // Which word of lent memory is which: a header, as many words for each page, the queue of those that rest, and the low level of the index of pages.
 // Strides are constant, so that where a word lies is told by sums of products with constants.
+#![tactic(auto)]
+
 ghost use Rattle.layout.specs.Layout.{AreasInOrder, FieldsInOrder};
 
 pub mod field;

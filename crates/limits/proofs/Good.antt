@@ -1,9 +1,9 @@
 -- Good limits, from what is tested one by one.
-use Rattle.std.proofs.Common.{◌≡◌, ℕ, zero, suc, ◌<◌, ◌≤◌, Bool, true, List, length, get_or, refl, arith}
+use Rattle.std.proofs.Common.{◌≡◌, ℕ, zero, suc, ◌<◌, ◌≤◌, Bool, List, length, get_or, arith}
 use Rattle.std.specs.List.{AllByRecursion as All}
 use Rattle.std.proofs.ByRecursion.{All-from_get_or, All-get_or}
-use Rattle.grounds.specs.Numbers.{most_pages, most_classes, most_rests, mark_length, byte}
-use Rattle.grounds.specs.Worlds.{rising, GoodLimits}
+use Rattle.grounds.specs.Numbers.{mark_length, byte}
+use Rattle.grounds.specs.Worlds.{GoodLimits}
 use Rattle.limits.specs.declared.limits.Limits.{Limits as Given}
 use Rattle.limits.specs.Limits.{limits_in}
 

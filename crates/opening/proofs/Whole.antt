@@ -7,7 +7,7 @@ use Rattle.grounds.specs.declared.answer.Answer.TheVariants.{Done, Refused}
 use Rattle.grounds.specs.declared.answer.Refusal.TheVariants.{OutOfRange}
 use Rattle.grounds.specs.Blocks.{Limits, memory_words}
 use Rattle.grounds.specs.Promises.{MayOpen}
-use Rattle.opening.specs.Opening.{Opening, opened_word, opened}
+use Rattle.opening.specs.Opening.{Opening, opened_word}
 
 all_written : (f : ℕ → ℕ) (m : List ℕ) (n : ℕ) → length m ≡ n → ((i : ℕ) → i < length m → get_or m i 0 ≡ f i) → m ≡ map f (range_with_len 0 n)
 all_written f m n long each =

@@ -1,4 +1,6 @@
 // Plays a script: reads its lines, asks what they ask, and prints each with its answer.
+#![tactic(auto)]
+
 ghost use Rattle.grounds.specs.declared.answer.Answer.TheVariants.{Refused};
 ghost use Rattle.grounds.specs.declared.answer.Refusal.TheVariants.{OutOfRange};
 ghost use Rattle.std.specs.Prelude.{◌≡◌};

@@ -1,5 +1,7 @@
 // A queue of numbers in lent memory: slots that are used as a ring, and two header words, the slot of the newest number and how many there are.
 // The numbers lie from the newest on to the oldest, past the last slot to the first again.
+#![tactic(auto)]
+
 ghost use Rattle.std.specs.Prelude.{◌≡◌, ◌+◌, ◌^◌, ◌<◌, ◌≤◌, length};
 ghost use Rattle.ring.specs.Ring.{before, count_of, held, place};
 

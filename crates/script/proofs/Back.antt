@@ -1,5 +1,5 @@
 -- An event's text has the event's words, and no other line has them. Assumes nothing.
-use Rattle.std.proofs.Common.{◌≡◌, ℕ, ◌^◌, ◌<◌, false, eqb, List, [], ◌∷◌, length, get_or, Ok, Err, codes, decimal, Result, sym, refl, ap, ◌∙◌, arith, MatchResult}
+use Rattle.std.proofs.Common.{◌≡◌, ℕ, ◌^◌, ◌<◌, eqb, List, [], ◌∷◌, get_or, Ok, Err, codes, decimal, Result, sym, refl, ap, ◌∙◌, arith, MatchResult}
 use Rattle.std.proofs.lemmas.Fmt.{decimal_nonempty, decimal_injective}
 use Rattle.std.proofs.lemmas.Bool.{ne_eqb, or_from}
 use Rattle.grounds.specs.declared.event.Event.{Event}
@@ -10,10 +10,9 @@ use Rattle.script.specs.declared.line.Line.{Line}
 use Rattle.script.specs.declared.line.Line.TheVariants.{Nothing, Open, Ask, Write}
 use Rattle.script.specs.Reading.{event_words, FitsEvent, line_words, FitsLine, Blames, Reads}
 use Rattle.script.specs.Texts.{event_text}
-use Rattle.script.specs.Words.{blank, code, words}
+use Rattle.script.specs.Words.{code, words}
 use Rattle.script.proofs.Cuts.{all_code, whole_word}
 use Rattle.script.proofs.Decimals.{digit}
-use Rattle.script.proofs.Listed.{tails}
 
 one_number : (n : ℕ) → n < 2 ^ 64 → words (code (decimal n)) ≡ decimal n ∷ []
 one_number n small =

@@ -1,5 +1,5 @@
 -- What the exit of a `?` hands on. Assumes nothing.
-use Rattle.std.proofs.Common.{◌≡◌, ℕ, List, [], ◌∷◌, ◌++◌, IsErrAnd, Ok, Err, Result, sym, subst}
+use Rattle.std.proofs.Common.{◌≡◌, ℕ, List, ◌++◌, IsErrAnd, Result, sym, subst}
 use Rattle.std.proofs.lemmas.Result.{err_from_is_err_and}
 use Rattle.script.specs.declared.expected.Expected.{Expected}
 use Rattle.script.specs.declared.expected.Expected.TheVariants.{Command, Number, Byte, Class, Word, End, Memory}

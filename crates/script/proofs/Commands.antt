@@ -1,11 +1,10 @@
 -- Which lines begin with which word. Assumes nothing.
-use Rattle.std.proofs.Common.{◌≡◌, ℕ, ◌^◌, ◌<◌, List, [], ◌∷◌, map, get_or, vec_items, codes, decimal, sym, ap, ◌∙◌, arith}
+use Rattle.std.proofs.Common.{◌≡◌, ℕ, ◌^◌, ◌<◌, List, [], ◌∷◌, map, get_or, vec_items, codes, decimal, ap, arith}
 use Rattle.grounds.specs.declared.event.Event.{Event}
 use Rattle.grounds.specs.declared.event.Event.TheVariants.{Get, Give, Size, Look, Garbled}
 use Rattle.script.specs.declared.line.Line.{Line}
 use Rattle.script.specs.declared.line.Line.TheVariants.{Nothing, Open, Ask, Write}
-use Rattle.script.specs.declared.opening.Opening.{Opening}
-use Rattle.script.specs.Reading.{event_words, FitsEvent, opening_words, FitsOpening, line_words, FitsLine, SomeBelow}
+use Rattle.script.specs.Reading.{event_words, FitsEvent, line_words, FitsLine, SomeBelow}
 
 -- the first word's first byte; 1 where there is no word
 abbrev initial : List (List ℕ) → ℕ

@@ -7,7 +7,7 @@
 --     opening_text o, line_text l     an opening, and a line, with one blank between its words
 --     told_text t           a line with its answer
 --     complaint_text c      which line of which file cannot be read, and why
-use Rattle.std.specs.Prelude.{ℕ, List, [], ◌∷◌, ◌++◌, Some, None, vec_items, codes, decimal, Option}
+use Rattle.std.specs.Prelude.{ℕ, List, [], ◌∷◌, ◌++◌, Some, vec_items, codes, decimal, Option}
 use Rattle.std.specs.Fmt.{option_append}
 use Rattle.script.specs.declared.complaint.Complaint.{Complaint}
 use Rattle.script.specs.declared.line.Line.{Line}

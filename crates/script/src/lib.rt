@@ -1,4 +1,6 @@
 // Lines of a script: what is asked of the keeper, as text. A line is read, and it is told with its answer.
+#![tactic(auto)]
+
 pub mod complaint;
 pub mod event;
 pub mod expected;

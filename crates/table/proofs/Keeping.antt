@@ -2,14 +2,14 @@
 -- holds a table: the lists of pieces and what has been lived so far don't come into it (kept-..). It may take the table to stand for some pieces (standing-..).
 --     Holds l t m        the keeper's own word for: the memory m holds the table t
 --     ByTable           that each step goes by the table
-use Rattle.std.proofs.Common.{◌≡◌, ℕ, ◌≤◌, Bool, true, List, length, Some, None, Option, sym, refl, ap, ◌∙◌, subst}
+use Rattle.std.proofs.Common.{◌≡◌, ℕ, Bool, true, List, length, Some, Option, sym, ap, ◌∙◌, subst}
 use Rattle.grounds.specs.declared.event.Event.{Event}
 use Rattle.grounds.specs.declared.answer.Refusal.{Refusal}
 use Rattle.grounds.specs.declared.answer.Answer.{Answer}
 use Rattle.grounds.specs.declared.answer.Answer.TheVariants.{Refused}
 use Rattle.grounds.specs.Blocks.{Limits, ground_size}
 use Rattle.grounds.specs.Events.{readable}
-use Rattle.grounds.specs.Grounds.{State, all_blocks, turned, place_of, after, ground_after}
+use Rattle.grounds.specs.Grounds.{State, place_of, after, ground_after}
 use Rattle.grounds.specs.Lowest.{lowest_answer, by_turned, the_answer}
 use Rattle.grounds.specs.Worlds.{GoodLimits, Program, World, Lived, new, asks, writes}
 use Rattle.grounds.specs.Promises.{RightAnswer, RightStep, Right, Lowest}

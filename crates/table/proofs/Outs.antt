@@ -1,17 +1,13 @@
 -- What the table knows of pieces that are out.
-use Rattle.std.proofs.Common.{◌≡◌, ℕ, ◌/◌, ◌<◌, List, ◌++◌, Some, None, Option, sym, refl, ap, ◌∙◌, subst, arith}
-use Rattle.std.specs.List.{AllByRecursion as All}
+use Rattle.std.proofs.Common.{◌≡◌, ℕ, ◌/◌, ◌<◌, ◌++◌, Some, None, Option, sym, refl, ap, ◌∙◌, subst, arith}
 use Rattle.std.proofs.ByRecursion.{all-has, has_append_left}
 use Rattle.grounds.specs.declared.block.Block.{Block}
 use Rattle.grounds.specs.Numbers.{page}
-use Rattle.grounds.specs.Blocks.{Limits}
-use Rattle.grounds.specs.Grounds.{State, all_blocks, find, out_at}
-use Rattle.grounds.proofs.Apart.{Lies}
+use Rattle.grounds.specs.Grounds.{all_blocks, find}
 use Rattle.grounds.proofs.Found.{find_at, find_has}
 use Rattle.grounds.proofs.Happened.{out_found}
 use Rattle.grounds.proofs.Kept.{found_lies}
-use Rattle.table.specs.Table.{Table}
-use Rattle.table.specs.Stands.{Knows, Pieces, Stands}
+use Rattle.table.specs.Stands.{Knows}
 use Rattle.table.specs.Theorems.{OutKnown}
 use Rattle.table.proofs.Touch.{touches_own}
 

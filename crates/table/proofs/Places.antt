@@ -1,27 +1,26 @@
 -- The lowest place of a small piece, found in the table, is the lowest place where it may be.
-use Rattle.std.proofs.Common.{◌≡◌, ℕ, ◌+◌, ◌*◌, ◌/◌, ◌%◌, ◌<◌, ◌≤◌, Bool, true, false, cond, not, ◌&&◌, ◌||◌, eqb, ltb, leb, ◌⊎◌, List, [], ◌∷◌, sym, refl, ap, ◌∙◌, subst, inl, inr, ⊎_elim, arith}
-use Rattle.std.specs.List.{ContainsAt as Has, AllByRecursion as All}
+use Rattle.std.proofs.Common.{◌≡◌, ℕ, ◌+◌, ◌*◌, ◌/◌, ◌%◌, ◌<◌, ◌≤◌, Bool, true, false, cond, not, ◌&&◌, ◌||◌, eqb, ltb, leb, ◌⊎◌, sym, ap, ◌∙◌, subst, inl, inr, ⊎_elim, arith}
+use Rattle.std.specs.List.{ContainsAt as Has}
 use Rattle.std.proofs.ByRecursion.{all-has}
 use Rattle.std.proofs.lemmas.Bool.{and_parts, and_from, or_cases, or_left, or_right, cases_Bool, cases_lt, eqb-true, eq-eqb, leb-true, le-leb, ltb-true, lt-ltb, le-ltb, cond-true, cond-false, both_ways, not-true, not-false}
 use Rattle.std.proofs.lemmas.Bool.Decides.{nat_tests}
 use Rattle.grounds.specs.declared.block.Block.{Block}
 use Rattle.grounds.specs.Numbers.{page, grain}
-use Rattle.grounds.specs.Lists.{every, first}
-use Rattle.grounds.specs.Blocks.{Limits, ground_size, class_of, apart, apart_all, page_is_of, may_be}
+use Rattle.grounds.specs.Lists.{first}
+use Rattle.grounds.specs.Blocks.{Limits, ground_size, class_of, apart, page_is_of, may_be}
 use Rattle.grounds.specs.Grounds.{State, all_blocks}
 use Rattle.grounds.specs.Lowest.{lowest_place}
 use Rattle.grounds.specs.Worlds.{GoodLimits}
 use Rattle.grounds.specs.Statements.{is_laid}
 use Rattle.grounds.proofs.Lists.{every_has, every_from_has}
-use Rattle.grounds.proofs.First.{first_le, first_hit, first_low, first_is, first_none, first_miss}
+use Rattle.grounds.proofs.First.{first_hit, first_low, first_is, first_none}
 use Rattle.grounds.proofs.Classes.{class_fits}
-use Rattle.grounds.proofs.Apart.{Apart, apart_tells, apart_from, SmallThere, may_small, Lies, lies}
+use Rattle.grounds.proofs.Apart.{apart_tells, apart_from, SmallThere, may_small, lies}
 use Rattle.grounds.proofs.Laid.{multiples}
 use Rattle.grounds.proofs.Room.{Sits, small_may_be, laid_sits, sits_apart}
 use Rattle.table.specs.Table.{Table, touches, units, fits, unit_place, free_unit, open_page, found_small}
-use Rattle.table.specs.Stands.{times, on, Knows, Pieces}
+use Rattle.table.specs.Stands.{Knows, Pieces}
 use Rattle.table.proofs.Counts.{count_some, count_none}
-use Rattle.table.proofs.Touch.{touch_tells, touch_from}
 
 module _ (can : ℕ → Bool) (l : Limits) (good : GoodLimits can l) (t : Table) (s : State) (known : Pieces l t s) (n : ℕ)
     (some : 0 < class_of n l.classes) where

@@ -1,5 +1,5 @@
 -- Where a table stands for the pieces, it stands for them after each thing that can happen.
-use Rattle.std.proofs.Common.{◌≡◌, ℕ, ◌<◌, ◌≤◌, Bool, true, List, [], ◌∷◌, ◌++◌, map, length, take, drop, Some, fold, sym, refl, ap, ◌∙◌, subst, ap₂, append-nil, arith, take-append-drop, length-take}
+use Rattle.std.proofs.Common.{◌≡◌, ℕ, ◌<◌, Bool, true, List, [], ◌∷◌, ◌++◌, map, take, drop, Some, fold, sym, refl, ap, ◌∙◌, subst, ap₂, append-nil, arith, take-append-drop, length-take}
 use Rattle.std.proofs.lemmas.List.{take-map, drop-map}
 use Rattle.grounds.specs.declared.block.Block.{Block}
 use Rattle.grounds.specs.Blocks.{Limits, may_be}

@@ -1,25 +1,23 @@
 -- Where a table stands for the pieces, and something happens, the changed table stands for the changed pieces.
-use Rattle.std.proofs.Common.{◌≡◌, ℕ, suc, ◌+◌, ◌-◌, ◌*◌, ◌/◌, ◌<◌, ◌≤◌, Bool, true, false, cond, not, ◌||◌, eqb, ◌⊎◌, List, [], ◌∷◌, ◌++◌, map, length, take, drop, Some, None, fold, count_by, Option, unwrap_or, sym, refl, ap, ◌∙◌, subst, inl, inr, append_assoc, arith, length-drop, take-append-drop, length-take}
+use Rattle.std.proofs.Common.{◌≡◌, ℕ, ◌+◌, ◌/◌, ◌<◌, Bool, true, false, cond, eqb, ◌⊎◌, List, [], ◌∷◌, ◌++◌, map, Some, None, fold, count_by, Option, unwrap_or, sym, refl, ap, ◌∙◌, subst, inl, inr, append_assoc, arith}
 use Rattle.std.specs.List.{ContainsAt as Has, AllByRecursion as All}
 use Rattle.std.proofs.ByRecursion.{All-weaker, all_has_itself, all-has}
 use Rattle.std.proofs.lemmas.Bool.{cases_Bool, cases_eq, cond-true, cond-false, eq-eqb, ne_eqb}
 use Rattle.grounds.specs.declared.block.Block.{Block}
-use Rattle.grounds.specs.Numbers.{page, mark_length}
-use Rattle.grounds.specs.Blocks.{Limits, room_for, apart, may_be}
+use Rattle.grounds.specs.Numbers.{page}
+use Rattle.grounds.specs.Blocks.{Limits, may_be}
 use Rattle.grounds.specs.Grounds.{State, new_state, all_blocks, find, without, out_at, got_at}
 use Rattle.grounds.specs.Worlds.{GoodLimits}
 use Rattle.grounds.specs.Statements.{Laid_out}
-use Rattle.grounds.proofs.Lists.{has_here}
 use Rattle.grounds.proofs.Bags.{Bag, to_third}
 use Rattle.grounds.proofs.Found.{found, find_at, find_past, find_without}
-use Rattle.grounds.proofs.Apart.{Lies}
-use Rattle.grounds.proofs.Happened.{Asked, one_out, one_spoilt, one_rests, one_overrun, out_found}
+use Rattle.grounds.proofs.Happened.{one_out, one_spoilt, one_overrun}
 use Rattle.grounds.proofs.Gives.{none_left}
-use Rattle.grounds.proofs.Laid.{none_laid, laid_bag, out_front, got_laid, first_lies, others_lie}
-use Rattle.table.specs.Table.{Table, new_table, touches, one_if, placed, sized, marked_spoilt, queued, known, released, rested}
-use Rattle.table.specs.Stands.{times, on, Knows, Pieces, Stands}
+use Rattle.grounds.proofs.Laid.{none_laid, laid_bag, out_front, got_laid, first_lies}
+use Rattle.table.specs.Table.{Table, new_table, touches, one_if, placed, sized, marked_spoilt, known, released}
+use Rattle.table.specs.Stands.{Knows, Pieces, Stands}
 use Rattle.table.proofs.Counts.{count_cons, count_append, count_middle, count_third, count_found, all_bag}
-use Rattle.table.proofs.Touch.{touches_own, Share, share}
+use Rattle.table.proofs.Touch.{touches_own, share}
 
 pub new_stands : (l : Limits) → Stands l new_table new_state
 unfolding find

@@ -1,6 +1,6 @@
 -- Where a table stands for the pieces, it answers rightly, and goes on to stand for them.
-use Rattle.std.proofs.Common.{◌≡◌, ℕ, ◌/◌, ◌<◌, Bool, true, false, cond, ◌&&◌, ltb, ◌⊎◌, List, replicate, is_some, Some, None, Option, unwrap_or, sym, refl, ap, ◌∙◌, subst, ap₂, inl, inr, arith}
-use Rattle.std.proofs.lemmas.Bool.{lt-ltb, le-ltb, cases_Bool, cond-true, cond-false}
+use Rattle.std.proofs.Common.{◌≡◌, ℕ, ◌/◌, Bool, true, false, cond, ◌&&◌, ltb, List, replicate, is_some, Some, None, Option, unwrap_or, sym, refl, ap, ◌∙◌, subst, ap₂, arith}
+use Rattle.std.proofs.lemmas.Bool.{lt-ltb, le-ltb}
 use Rattle.grounds.specs.declared.block.Block.{Block}
 use Rattle.grounds.specs.declared.event.Event.{Event}
 use Rattle.grounds.specs.declared.event.Event.TheVariants.{Get, Give, Size, Look, Garbled}
@@ -10,20 +10,18 @@ use Rattle.grounds.specs.declared.answer.Answer.{Answer}
 use Rattle.grounds.specs.declared.answer.Answer.TheVariants.{Refused, Done, Place, Number, Overrun, Harmed, Whole}
 use Rattle.grounds.specs.Numbers.{page}
 use Rattle.grounds.specs.Lists.{over}
-use Rattle.grounds.specs.Blocks.{Limits, ground_size, may_be, some_place}
+use Rattle.grounds.specs.Blocks.{Limits, ground_size}
 use Rattle.grounds.specs.Events.{event_number, no_event}
-use Rattle.grounds.specs.Grounds.{State, all_blocks, find, out_at, got_at, mark_place, marked, turned, turned_by, good_fields, place_of, after, ground_after, clean_there}
-use Rattle.grounds.specs.Lowest.{lowest_place, lowest_overrun, lowest_harm, look_answer, lowest_answer, by_turned, the_answer}
+use Rattle.grounds.specs.Grounds.{State, find, out_at, mark_place, marked, turned, turned_by, good_fields, place_of, after, ground_after, clean_there}
+use Rattle.grounds.specs.Lowest.{lowest_place, look_answer, lowest_answer, by_turned, the_answer}
 use Rattle.grounds.specs.Worlds.{GoodLimits}
 use Rattle.grounds.proofs.Found.{find_at}
-use Rattle.grounds.proofs.Happened.{get_taken, give_taken, after_refused, ground_refused, out_found, one_overrun, one_rests}
+use Rattle.grounds.proofs.Happened.{get_taken, give_taken, out_found, one_overrun, one_rests}
 use Rattle.grounds.proofs.LowestRight.{lowest_may}
 use Rattle.table.specs.Table.{Table, known, sized, marked_spoilt, rested}
 use Rattle.table.specs.Stands.{Stands}
-use Rattle.table.specs.Runs.{found}
-use Rattle.table.specs.Looks.{lowest_changed, lowest_stray}
 use Rattle.table.specs.Answers.{table_turned_by, table_turned, table_look, table_chosen, table_answer, table_after, table_ground}
-use Rattle.table.specs.Theorems.{TableStep, TableRight}
+use Rattle.table.specs.Theorems.{TableRight}
 use Rattle.table.proofs.Outs.{out_known}
 use Rattle.table.proofs.Runs.{place_found, room_known}
 use Rattle.table.proofs.Looks.{changed_found, stray_found}

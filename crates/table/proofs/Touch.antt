@@ -1,15 +1,15 @@
 -- Which pages a piece touches, and what two pieces that are laid out and touch one page have in common.
-use Rattle.std.proofs.Common.{◌≡◌, ℕ, ◌+◌, ◌*◌, ◌/◌, ◌%◌, ◌<◌, ◌≤◌, Bool, true, false, not, ◌&&◌, ◌||◌, eqb, ltb, ◌⊎◌, List, [], ◌∷◌, sym, refl, ap, ◌∙◌, subst, inl, inr, ⊎_elim, arith}
-use Rattle.std.specs.List.{ContainsAt as Has, AllByRecursion as All}
+use Rattle.std.proofs.Common.{◌≡◌, ℕ, ◌+◌, ◌*◌, ◌/◌, ◌<◌, Bool, true, ◌&&◌, ◌||◌, eqb, ltb, ◌⊎◌, List, ◌∷◌, inl, inr, ⊎_elim, arith}
+use Rattle.std.specs.List.{ContainsAt as Has}
 use Rattle.std.proofs.lemmas.Bool.{and_parts, or_cases, both_ways, ltb-true, eqb-true, not-true}
 use Rattle.std.proofs.lemmas.Bool.Decides.{nat_tests}
 use Rattle.grounds.specs.declared.block.Block.{Block}
-use Rattle.grounds.specs.Numbers.{page, mark_length}
+use Rattle.grounds.specs.Numbers.{page}
 use Rattle.grounds.specs.Lists.{every, each_pair}
 use Rattle.grounds.specs.Blocks.{Limits, class_of, apart}
 use Rattle.grounds.specs.Statements.{share_well, Laid_out}
 use Rattle.grounds.proofs.Lists.{every_has}
-use Rattle.grounds.proofs.Apart.{Lies, not_apart, apart_tells, Apart}
+use Rattle.grounds.proofs.Apart.{not_apart}
 use Rattle.grounds.proofs.Laid.{first_lies, others_lie}
 use Rattle.table.specs.Table.{touches}
 

@@ -2,7 +2,7 @@
 --     table_turned l t e        why e is turned away, if it is
 --     table_answer l t g e      what is answered to e
 --     table_after l t e x       the table, once e was answered by x; table_ground l t g e x, the ground
-use Rattle.std.specs.Prelude.{ℕ, ◌/◌, Bool, cond, ◌&&◌, List, [], ◌∷◌, replicate, Some, None, Option, nat_lt}
+use Rattle.std.specs.Prelude.{ℕ, ◌/◌, cond, ◌&&◌, List, replicate, Some, None, Option, nat_lt}
 use Rattle.grounds.specs.declared.event.Event.{Event}
 use Rattle.grounds.specs.declared.event.Event.TheVariants.{Get, Give, Size, Look, Garbled}
 use Rattle.grounds.specs.declared.answer.Refusal.{Refusal}

@@ -1,8 +1,8 @@
 -- What it means that a table stands for the pieces of a ground. Assumes nothing: these are definitions and statements.
 --     times a bs, on p bs      how many of the pieces bs begin at a; how many touch the page p
 --     Pieces l t s, Stands l t s      t knows the pieces s; and also how they rest: it stands for s
-use Rattle.std.specs.Prelude.{◌≡◌, ℕ, ◌/◌, ◌<◌, ◌≤◌, Bool, true, List, map, length, count_by, nat_eq}
-use Rattle.std.specs.List.{ContainsAt as Has, AllByRecursion as All}
+use Rattle.std.specs.Prelude.{◌≡◌, ℕ, ◌/◌, ◌<◌, ◌≤◌, true, List, map, length, count_by, nat_eq}
+use Rattle.std.specs.List.{AllByRecursion as All}
 use Rattle.grounds.specs.declared.block.Block.{Block}
 use Rattle.grounds.specs.Numbers.{page}
 use Rattle.grounds.specs.Blocks.{Limits}

@@ -1,5 +1,7 @@
 // What a keeper has to know of a ground, and that it suffices. There is no code here: the table is in specs/, and each theorem is the contract of a
 // function that has nothing to do.
+#![tactic(auto)]
+
 ghost use Rattle.table.specs.Theorems.{TableRight, NewStands, GetStands, SpoilStands, OverrunStands, RestStands, SmallFound, OutKnown, RunFound, PlaceFound, RoomKnown, OwnedKnown, ChangedFound, StrayFound};
 
 pub fn new_stands()

@@ -11,7 +11,7 @@
 --     AllTaken               that every unit is taken
 --     LowestFree, FreeOf    what holds of the lowest unit that is free; the same of an answer
 --     FirstOpen              what holds of the first of the four words that has a clear bit, and of 4 where none has one
-use Rattle.std.specs.Prelude.{◌≡◌, ℕ, zero, suc, ◌+◌, ◌-◌, ◌/◌, ◌%◌, ◌^◌, ◌<◌, ◌≤◌, Bool, true, false, cond, not, List, length, set, Some, None, Option, MatchOption, ◌==◌, nat_lt, slice_index, slice_set}
+use Rattle.std.specs.Prelude.{◌≡◌, ℕ, zero, suc, ◌+◌, ◌-◌, ◌/◌, ◌%◌, ◌^◌, ◌<◌, ◌≤◌, Bool, true, false, cond, not, List, length, Some, None, Option, MatchOption, ◌==◌, nat_lt, slice_index, slice_set}
 use Rattle.grounds.specs.Lists.{first}
 use Rattle.grounds.specs.Numbers.{page, grain}
 use Rattle.bits.specs.Bit.{bit, with_bit, without_bit}

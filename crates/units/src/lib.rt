@@ -1,5 +1,7 @@
 // Which units of a page are taken: a page has 256 units of 16 bytes, and their bits stand in four words of lent memory.
 // The unit u is the bit u % 64 of the word u / 64. No memory is trusted: what lies past its end reads as free, and is not written.
+#![tactic(auto)]
+
 ghost use Rattle.std.specs.Prelude.{◌≡◌, ◌^◌, ◌<◌, ◌≤◌};
 ghost use Rattle.units.specs.Units.{unit_bit, units};
 

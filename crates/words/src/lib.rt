@@ -1,4 +1,6 @@
 // Lent memory, read and written word by word: what lies past its end reads as 0 and is not written, so that no number found in it leads outside.
+#![tactic(auto)]
+
 ghost use Rattle.std.specs.Prelude.{◌≡◌, slice_index, slice_set};
 
 pub fn word(memory: &[u64], at: usize) -> u64

@@ -1,4 +1,4 @@
-use Rattle.std.proofs.Common.{◌≡◌, ℕ, ◌/◌, ◌^◌, eqb, ap}
+use Rattle.std.proofs.Common.{ℕ, ◌/◌, ◌^◌, eqb, ap}
 use Rattle.std.proofs.lemmas.Nat.{and_mask}
 use Rattle.bits.specs.Bit.{bit}
 use Rattle.bits.proofs.is_set.Goals as goal

@@ -1,4 +1,4 @@
-use Rattle.std.proofs.Common.{◌≡◌, ℕ, List, ◌∷◌, ◌++◌, sym, ap, ◌∙◌, subst, ap₂}
+use Rattle.std.proofs.Common.{ℕ, List, ◌∷◌, ◌++◌, sym, ap, ◌∙◌, subst, ap₂}
 use Rattle.grounds.specs.Events.{answer_number}
 use Rattle.codec.specs.Bytes.{number_bytes, answer_bytes}
 use Rattle.codec.specs.Codec.{Writes}

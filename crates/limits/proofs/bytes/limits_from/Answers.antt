@@ -1,4 +1,4 @@
-use Rattle.std.proofs.Common.{◌≡◌, ℕ, ◌≤◌, List, ◌∷◌, length, get_or, sym, refl, ap, ◌∙◌, arith}
+use Rattle.std.proofs.Common.{◌≤◌, length, get_or, sym, ◌∙◌, arith}
 use Rattle.limits.proofs.Numbers.{enough_numbers, mark_numbers, four_first, same_numbers}
 use Rattle.limits.proofs.bytes.limits_from.Goals as goal
 

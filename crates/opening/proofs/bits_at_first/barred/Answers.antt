@@ -1,4 +1,4 @@
-use Rattle.std.proofs.Common.{◌≡◌, sym, ◌∙◌}
+use Rattle.std.proofs.Common.{sym, ◌∙◌}
 use Rattle.opening.proofs.Bars.{none_barred, one_open, one_barred}
 use Rattle.opening.proofs.bits_at_first.barred.Goals as goal
 use Rattle.opening.proofs.bits_at_first.barred.Goals.{then-not-may_begin, else-not-may_begin}

@@ -1,4 +1,4 @@
-use Rattle.std.proofs.Common.{ℕ, Bool, true, sym, ◌∙◌, inl, inr, arith}
+use Rattle.std.proofs.Common.{ℕ, true, sym, ◌∙◌, inl, inr, arith}
 use Rattle.std.proofs.lemmas.Bool.{false≢true}
 use Rattle.limits.specs.Limits.{limits_in}
 use Rattle.opening.proofs.Whole.{not_taken, is_taken}

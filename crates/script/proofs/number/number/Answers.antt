@@ -1,4 +1,4 @@
-use Rattle.std.proofs.Common.{◌≡◌, ◌^◌, ◌≤◌, [], ◌∷◌, length, get_or, sym, refl, ap, ◌∙◌, subst, arith, true-eqb}
+use Rattle.std.proofs.Common.{◌≡◌, ◌^◌, [], ◌∷◌, length, sym, ap, ◌∙◌, subst, arith, true-eqb}
 use Rattle.std.specs.Cmp.Lexicographic.{same_text, other_text}
 use Rattle.script.specs.Reading.{IsNumber}
 use Rattle.script.proofs.Decimals.{zero_text, not_empty, not_low, not_high, parsed}

@@ -1,4 +1,4 @@
-use Rattle.std.proofs.Common.{◌≡◌, ◌^◌, ◌++◌, map, vec_items, decimal, refl}
+use Rattle.std.proofs.Common.{◌≡◌, ◌^◌, ◌++◌, map, vec_items, decimal}
 use Rattle.std.specs.Cmp.Lexicographic.{same_text, other_text}
 use Rattle.script.specs.Words.{left}
 use Rattle.script.proofs.Blamed.{takes_exit}

@@ -1,5 +1,5 @@
-use Rattle.std.proofs.Common.{◌≡◌, ◌<◌, ◌≤◌, false, length, get_or, refl, arith, rules}
-use Rattle.std.proofs.lemmas.Bool.{leb-true, le-leb, false≢true}
+use Rattle.std.proofs.Common.{◌≡◌, ◌<◌, length, get_or, refl, arith, rules}
+use Rattle.std.proofs.lemmas.Bool.{leb-true, le-leb}
 use Rattle.grounds.specs.Numbers.{mark_length, byte}
 use Rattle.limits.proofs.Good.{marks_good, mark_some}
 use Rattle.limits.proofs.limits.Limits.are_good.Goals as goal

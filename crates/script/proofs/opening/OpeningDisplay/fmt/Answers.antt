@@ -1,4 +1,4 @@
-use Rattle.std.proofs.Common.{ℕ, List, Some, codes, decimal, Option, sym, ap, ◌∙◌}
+use Rattle.std.proofs.Common.{ℕ, Some, codes, decimal, ap, ◌∙◌}
 use Rattle.std.specs.Fmt.{option_append}
 use Rattle.std.proofs.Output.{displays_on_ok_of_eq}
 use Rattle.script.specs.Texts.{opening_text, row}

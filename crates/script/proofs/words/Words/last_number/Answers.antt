@@ -1,4 +1,4 @@
-use Rattle.std.proofs.Common.{◌≡◌, [], ◌∷◌, sym, ◌∙◌}
+use Rattle.std.proofs.Common.{◌≡◌, []}
 use Rattle.script.specs.Words.{left}
 use Rattle.script.proofs.Blamed.{reads_exit}
 use Rattle.script.proofs.words.Words.last_number.Goals as goal
