@@ -1,3 +1,5 @@
+#![tactic(auto)]
+
 // Limits that are taken and limits that are refused, by themselves and as bytes, and the least class of a size, on examples.
 #[cfg(test)]
 mod tests;

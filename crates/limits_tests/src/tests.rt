@@ -26,11 +26,10 @@ fn usual(classes: &[u64]) -> Limits<'_> {
     }
 }
 
-fn is_refused(rt: &impl Abort, limits: Limits<'_>) -> Result<(), Fail> {
-    assert!(rt; !limits.are_good());
-    assert!(rt; limits.memory_words().is_none());
-    assert!(rt; limits.ground_bytes().is_none());
-    Ok(())
+fn is_refused(rt: &impl Abort, limits: Limits<'_>, what: &str) {
+    assert!(rt; !limits.are_good(), "{what}");
+    assert!(rt; limits.memory_words().is_none(), "{what}");
+    assert!(rt; limits.ground_bytes().is_none(), "{what}");
 }
 
 #[test]
@@ -61,53 +60,53 @@ fn smallest(rt: HostRuntime) {
 }
 
 #[test]
-fn one_too_far(rt: HostRuntime) -> Result<(), Fail> {
+fn one_too_far(rt: HostRuntime) {
     let good = usual(&CLASSES);
     assert!(rt; good.are_good());
-    is_refused(&rt, Limits { pages: 0, ..good }).note("no pages")?;
+    is_refused(&rt, Limits { pages: 0, ..good }, "no pages");
     is_refused(
         &rt,
         Limits {
             pages: MOST_PAGES + 1,
             ..good
         },
-    )
-    .note("pages")?;
+        "pages",
+    );
     is_refused(
         &rt,
         Limits {
             rests: MOST_RESTS + 1,
             ..good
         },
-    )
-    .note("rests")?;
+        "rests",
+    );
     is_refused(
         &rt,
         Limits {
             marks: [0, 99],
             ..good
         },
-    )
-    .note("first of the mark")?;
+        "first of the mark",
+    );
     is_refused(
         &rt,
         Limits {
             marks: [66, 0],
             ..good
         },
-    )
-    .note("second of the mark")
+        "second of the mark",
+    );
 }
 
 #[test]
-fn bad_classes(rt: HostRuntime) -> Result<(), Fail> {
-    is_refused(&rt, usual(&[])).note("none")?;
-    is_refused(&rt, usual(&[0, 16])).note("nothing")?;
-    is_refused(&rt, usual(&[16, 40])).note("no whole grains")?;
-    is_refused(&rt, usual(&[16, 16])).note("one twice")?;
-    is_refused(&rt, usual(&[32, 16])).note("falling")?;
-    is_refused(&rt, usual(&[16, PAGE + GRAIN])).note("more than a page")?;
-    is_refused(&rt, usual(&ONE_TOO_MANY)).note("too many")
+fn bad_classes(rt: HostRuntime) {
+    is_refused(&rt, usual(&[]), "none");
+    is_refused(&rt, usual(&[0, 16]), "nothing");
+    is_refused(&rt, usual(&[16, 40]), "no whole grains");
+    is_refused(&rt, usual(&[16, 16]), "one twice");
+    is_refused(&rt, usual(&[32, 16]), "falling");
+    is_refused(&rt, usual(&[16, PAGE + GRAIN]), "more than a page");
+    is_refused(&rt, usual(&ONE_TOO_MANY), "too many");
 }
 
 #[test]

@@ -4,7 +4,6 @@ use grounds::numbers::{MOST_PAGES, MOST_RESTS};
 use limits::limits::Limits;
 use opening::open::open;
 use std::process::Abort;
-use std::test::Fail;
 
 // For one page, and one piece that rests.
 const WORDS: usize = 1298;
@@ -23,20 +22,18 @@ fn usual(classes: &[u64]) -> Limits<'_> {
 }
 
 // Each of these words is that number.
-fn holds(rt: &impl Abort, memory: &[u64], words: &[(usize, u64)]) -> Result<(), Fail> {
+fn holds(rt: &impl Abort, memory: &[u64], words: &[(usize, u64)], what: &str) {
     for (at, value) in words {
-        assert!(rt; memory.get(*at) == Some(value));
+        assert!(rt; memory.get(*at) == Some(value), "{what}");
     }
-    Ok(())
 }
 
 #[test]
-fn opens(rt: HostRuntime) -> Result<(), Fail> {
+fn opens(rt: HostRuntime) {
     let mut memory = [7; WORDS];
     let ground = [9; BYTES];
-    let Answer::Done = open(&mut memory, &ground, &usual(&CLASSES)) else {
-        return Err(Fail::new("it is refused"));
-    };
+    let answer = open(&mut memory, &ground, &usual(&CLASSES));
+    assert!(rt; answer == Answer::Done, "it is refused");
     holds(
         &rt,
         &memory,
@@ -50,64 +47,71 @@ fn opens(rt: HostRuntime) -> Result<(), Fail> {
             (6, 99),
             (7, 0),
         ],
-    )
-    .note("limits")?;
-    holds(&rt, &memory, &[(13, 16), (14, 1024), (15, 0)]).note("classes")?;
+        "limits",
+    );
+    holds(&rt, &memory, &[(13, 16), (14, 1024), (15, 0)], "classes");
     holds(
         &rt,
         &memory,
         &[(45, 0), (48, 0), (49, 18446744073709551614), (53, 0)],
-    )
-    .note("templates")?;
+        "templates",
+    );
     holds(
         &rt,
         &memory,
         &[(173, 0), (174, 0), (175, 1), (237, 1), (238, 2), (429, 2)],
-    )
-    .note("look-up")?;
+        "look-up",
+    );
     holds(
         &rt,
         &memory,
         &[(430, 0), (942, 1), (943, 0), (991, 0), (1261, 0)],
-    )
-    .note("high level and page")?;
-    holds(&rt, &memory, &[(1262, 0), (1264, 0), (1296, 1), (1297, 0)]).note("queue and low level")
+        "high level and page",
+    );
+    holds(
+        &rt,
+        &memory,
+        &[(1262, 0), (1264, 0), (1296, 1), (1297, 0)],
+        "queue and low level",
+    );
 }
 
 // An opening is refused, and nothing is written.
-fn refuses(
-    rt: &impl Abort,
-    memory: &mut [u64],
-    ground: &[u8],
-    limits: &Limits<'_>,
-) -> Result<(), Fail> {
-    let Answer::Refused(Refusal::OutOfRange, 0) = open(memory, ground, limits) else {
-        return Err(Fail::new("it is taken"));
-    };
+fn refuses(rt: &impl Abort, memory: &mut [u64], ground: &[u8], limits: &Limits<'_>, what: &str) {
+    let answer = open(memory, ground, limits);
+    assert!(rt;
+        answer == Answer::Refused(Refusal::OutOfRange, 0),
+        "{what}: it is taken"
+    );
     for word in memory {
-        assert!(rt; *word == 7);
+        assert!(rt; *word == 7, "{what}");
     }
-    Ok(())
 }
 
 #[test]
-fn other_lengths(rt: HostRuntime) -> Result<(), Fail> {
+fn other_lengths(rt: HostRuntime) {
     let limits = usual(&CLASSES);
     let mut memory = [7; WORDS];
-    refuses(&rt, &mut memory, &[9; BYTES + 1], &limits).note("more ground")?;
-    refuses(&rt, &mut memory, &[9; BYTES - 1], &limits).note("less ground")?;
+    refuses(&rt, &mut memory, &[9; BYTES + 1], &limits, "more ground");
+    refuses(&rt, &mut memory, &[9; BYTES - 1], &limits, "less ground");
     let mut more = [7; WORDS + 1];
-    refuses(&rt, &mut more, &[9; BYTES], &limits).note("more memory")?;
+    refuses(&rt, &mut more, &[9; BYTES], &limits, "more memory");
     let mut less = [7; WORDS - 1];
-    refuses(&rt, &mut less, &[9; BYTES], &limits).note("less memory")
+    refuses(&rt, &mut less, &[9; BYTES], &limits, "less memory");
 }
 
 #[test]
-fn bad_limits(rt: HostRuntime) -> Result<(), Fail> {
+fn bad_limits(rt: HostRuntime) {
     let mut memory = [7; WORDS];
     let ground = [9; BYTES];
     let good = usual(&CLASSES);
-    refuses(&rt, &mut memory, &ground, &Limits { pages: 0, ..good }).note("no pages")?;
+    refuses(
+        &rt,
+        &mut memory,
+        &ground,
+        &Limits { pages: 0, ..good },
+        "no pages",
+    );
     refuses(
         &rt,
         &mut memory,
@@ -116,8 +120,8 @@ fn bad_limits(rt: HostRuntime) -> Result<(), Fail> {
             pages: MOST_PAGES + 1,
             ..good
         },
-    )
-    .note("pages")?;
+        "pages",
+    );
     refuses(
         &rt,
         &mut memory,
@@ -126,8 +130,8 @@ fn bad_limits(rt: HostRuntime) -> Result<(), Fail> {
             rests: MOST_RESTS + 1,
             ..good
         },
-    )
-    .note("rests")?;
+        "rests",
+    );
     refuses(
         &rt,
         &mut memory,
@@ -136,8 +140,8 @@ fn bad_limits(rt: HostRuntime) -> Result<(), Fail> {
             marks: [0, 99],
             ..good
         },
-    )
-    .note("first of the mark")?;
+        "first of the mark",
+    );
     refuses(
         &rt,
         &mut memory,
@@ -146,9 +150,15 @@ fn bad_limits(rt: HostRuntime) -> Result<(), Fail> {
             marks: [66, 0],
             ..good
         },
-    )
-    .note("second of the mark")?;
-    refuses(&rt, &mut memory, &ground, &usual(&[])).note("no classes")?;
-    refuses(&rt, &mut memory, &ground, &usual(&[16, 24])).note("no whole grains")?;
-    refuses(&rt, &mut memory, &ground, &usual(&[32, 16])).note("falling")
+        "second of the mark",
+    );
+    refuses(&rt, &mut memory, &ground, &usual(&[]), "no classes");
+    refuses(
+        &rt,
+        &mut memory,
+        &ground,
+        &usual(&[16, 24]),
+        "no whole grains",
+    );
+    refuses(&rt, &mut memory, &ground, &usual(&[32, 16]), "falling");
 }

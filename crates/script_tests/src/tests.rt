@@ -14,7 +14,7 @@ use std::test::Fail;
 fn prints(rt: &impl Abort, heap: Global, text: &str, wanted: &str) -> Result<(), Fail> {
     let line = read_line(heap, text)?;
     let printed = format!(in heap; "{line}")?;
-    assert!(rt; printed.as_str() == wanted);
+    assert!(rt; printed.as_str() == wanted, "{text}");
     Ok(())
 }
 
@@ -35,7 +35,7 @@ fn reads(rt: HostRuntime) -> Result<(), Fail> {
         ),
     ];
     for (text, wanted) in table {
-        prints(&rt, rt.alloc(), text, wanted).note(text)?;
+        prints(&rt, rt.alloc(), text, wanted)?;
     }
     Ok(())
 }
@@ -45,7 +45,7 @@ fn refuses(rt: &impl Abort, heap: Global, text: &str, wanted: Expected) -> Resul
     match read_line(heap, text) {
         Ok(_) => Err(Fail::new("it is read")),
         Err(expected) => {
-            assert_eq!(rt; expected, wanted);
+            assert_eq!(rt; expected, wanted, "{text}");
             Ok(())
         },
     }
@@ -74,7 +74,7 @@ fn refuses_others(rt: HostRuntime) -> Result<(), Fail> {
         ),
     ];
     for (text, wanted) in table {
-        refuses(&rt, rt.alloc(), text, wanted).note(text)?;
+        refuses(&rt, rt.alloc(), text, wanted)?;
     }
     Ok(())
 }
