@@ -3,7 +3,7 @@ ghost use Rattle.std.specs.Prelude.{◌≡◌, suc, min, ◌∷◌, length, if�
 ghost use Rattle.grounds.specs.declared.event.Event.TheVariants.{Garbled};
 ghost use Rattle.codec.specs.Bytes.{number_length, number_of};
 ghost use Rattle.codec.specs.Codec.{event_of, Reads, WritesEvent};
-ghost use Rattle.codec.specs.Codec.{numbered as the-numbered};
+ghost use Rattle.codec.specs.Codec.{numbered as the_numbered};
 
 use crate::number::{NUMBER_LEN, read_number, write_alone, write_with_one};
 use grounds::event::{Event, GET, GIVE, LOOK, SIZE};
@@ -33,7 +33,7 @@ fn tagged(tag: u8, rest: &[u8]) -> Event
 
 // The event that carries a number.
 fn numbered(tag: u8, rest: &[u8]) -> Event
-    ensures { result ≡ (if nat_eq (length rest.now) number_length then the-numbered tag (number_of rest.now) else Garbled (suc (min (length rest.now) number_length))) }
+    ensures { result ≡ (if nat_eq (length rest.now) number_length then the_numbered tag (number_of rest.now) else Garbled (suc (min (length rest.now) number_length))) }
 {
     let Some(n) = read_number(rest) else {
         return Event::Garbled(1 + rest.len().min(NUMBER_LEN) as u64);

@@ -1,6 +1,6 @@
 -- How much a piece takes: what its class has and is, what a large piece takes, and that neither is much more than was asked for.
 use Rattle.std.proofs.Common.{◌≡◌, ℕ, ◌+◌, ◌%◌, ◌<◌, ◌≤◌, Bool, true, eqb, leb, List, [], ◌∷◌, refl, ⊎_elim, arith}
-use Rattle.std.specs.List.{ContainsAt as Has, AllByRecursion as All}
+use Rattle.std.specs.List.{ContainsAt as Has, AllByRecursion}
 use Rattle.std.proofs.lemmas.Bool.{leb-true, leb-false, eqb-true, eqb-false, cases_lt, cond_both}
 use Rattle.std.proofs.lemmas.Bool.Decides.{nat_tests}
 use Rattle.std.proofs.ByRecursion.{All-weaker, all-has, has_get_or, has_append_right}
@@ -41,14 +41,14 @@ module _ (n : ℕ) where
       (λ _ _. has_get_or (c ∷ cs) 0 0 (omega arith))
       (λ _ h. has_append_right (c ∷ []) cs (class_of n cs) (class_is_one cs h))
 
-  none_has : (cs : List ℕ) → class_of n cs ≡ 0 → All (λ c. c < n + mark_length) cs
+  none_has : (cs : List ℕ) → class_of n cs ≡ 0 → AllByRecursion (λ c. c < n + mark_length) cs
   unfolding class_of
   none_has [] = λ _. tt
   none_has (c ∷ cs) =
       class_cases
       c
       cs
-      (λ x. x ≡ 0 → All (λ d. d < n + mark_length) (c ∷ cs))
+      (λ x. x ≡ 0 → AllByRecursion (λ d. d < n + mark_length) (c ∷ cs))
       (λ has none. absurd (omega arith))
       (λ less none. (less, none_has cs none))
 
@@ -67,13 +67,13 @@ Risen k c = (k < c) × (c % grain ≡ 0) × (c ≤ page)
 risen : (k c : ℕ) (cs : List ℕ) → rising k (c ∷ cs) ≡ true → Risen k c × (rising c cs ≡ true)
 risen k c cs h = grind (arith, nat_tests)
 
-all_risen : (k : ℕ) (cs : List ℕ) → rising k cs ≡ true → All (Risen k) cs
+all_risen : (k : ℕ) (cs : List ℕ) → rising k cs ≡ true → AllByRecursion (Risen k) cs
 all_risen k [] h = tt
 all_risen k (c ∷ cs) h =
     let parts = risen k c cs h in (parts.0, All-weaker (Risen c) (Risen k) (λ d r. omega arith) cs (all_risen c cs parts.1))
 
 module _ (n : ℕ) where
-  least_all : (k : ℕ) (cs : List ℕ) → rising k cs ≡ true → All (λ c. n + mark_length ≤ c → class_of n cs ≤ c) cs
+  least_all : (k : ℕ) (cs : List ℕ) → rising k cs ≡ true → AllByRecursion (λ c. n + mark_length ≤ c → class_of n cs ≤ c) cs
   least_all k [] h = tt
   least_all k (c ∷ cs) h =
       let rest = (risen k c cs h).1 in
@@ -81,7 +81,7 @@ module _ (n : ℕ) where
       n
       c
       cs
-      (λ x. All (λ d. n + mark_length ≤ d → x ≤ d) (c ∷ cs))
+      (λ x. AllByRecursion (λ d. n + mark_length ≤ d → x ≤ d) (c ∷ cs))
       (λ _. (omega arith, All-weaker (Risen c) (λ d. n + mark_length ≤ d → c ≤ d) (λ d r. omega arith) cs (all_risen c cs rest)))
       (λ less. (omega arith, least_all c cs rest))
 

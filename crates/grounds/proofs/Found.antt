@@ -1,6 +1,6 @@
 -- What `find` finds, what is left `without` it, and that of more places than pieces one is at no piece's beginning.
 use Rattle.std.proofs.Common.{◌≡◌, ℕ, zero, suc, ◌<◌, Bool, true, false, cond, eqb, List, [], ◌∷◌, ◌++◌, length, is_some, Some, None, Option, sym, refl, ap, ◌∙◌, subst, ⊎_elim, arith}
-use Rattle.std.specs.List.{ContainsAt as Has, AllByRecursion as All}
+use Rattle.std.specs.List.{ContainsAt as Has, AllByRecursion}
 use Rattle.std.proofs.ByRecursion.{has_append_right}
 use Rattle.std.proofs.lemmas.Bool.{eqb-true, ne_eqb, cond-true, cond-false, cases_Bool, false≢true}
 use Rattle.std.proofs.lemmas.Bool.Decides.{nat_tests}
@@ -73,12 +73,12 @@ length_without a [] found = cc
 length_without a (b ∷ bs) found = let rest = length_without a bs in grind (arith, nat_tests)
 
 -- none is found exactly where none begins
-pub find_none : (a : ℕ) (bs : List Block) → All (λ b. a ≡ b.at → ⊥) bs → find a bs ≡ None
+pub find_none : (a : ℕ) (bs : List Block) → AllByRecursion (λ b. a ≡ b.at → ⊥) bs → find a bs ≡ None
 unfolding find
 find_none a [] h = refl
 find_none a (b ∷ bs) h = let rest = find_none a bs h.1 in let other = h.0 in grind (arith, nat_tests)
 
-pub none_begins : (a : ℕ) (bs : List Block) → find a bs ≡ None → All (λ b. a ≡ b.at → ⊥) bs
+pub none_begins : (a : ℕ) (bs : List Block) → find a bs ≡ None → AllByRecursion (λ b. a ≡ b.at → ⊥) bs
 unfolding find
 none_begins a [] none = tt
 none_begins a (b ∷ bs) none = (grind (arith, nat_tests), none_begins a bs (grind (arith, nat_tests)))

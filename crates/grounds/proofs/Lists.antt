@@ -1,6 +1,6 @@
 -- Lemmas on the tests of specs/Lists.antt: `every`, `any`, `each_pair` and `same`.
 use Rattle.std.proofs.Common.{◌≡◌, ℕ, zero, suc, ◌<◌, Bool, true, false, ◌&&◌, ◌||◌, eqb, ltb, ◌⊎◌, List, [], ◌∷◌, ◌++◌, length, get_or, take, drop, replicate, sym, refl, ◌∙◌, subst, inl, inr, ⊎_elim, arith}
-use Rattle.std.specs.List.{ContainsAt as Has, AllByRecursion as All}
+use Rattle.std.specs.List.{ContainsAt as Has, AllByRecursion}
 use Rattle.std.proofs.ByRecursion.{all-has, All-get_or, All-from_get_or, All-weaker, all_has_itself}
 use Rattle.std.proofs.lemmas.Bool.{and_parts, and_from, or_parts, lt-ltb, eq-eqb, eqb-true, false≢true, true≢false, both_ways}
 use Rattle.grounds.specs.Numbers.{byte}
@@ -52,11 +52,11 @@ module _ {X : Type 0} (t : X → Bool) where
   every_replicate zero x h = refl
   every_replicate (suc n) x h = and_from (t x) (every t (replicate n x)) h (every_replicate n x h)
 
-  pub all_from_every : (xs : List X) → every t xs ≡ true → All (λ x. t x ≡ true) xs
+  pub all_from_every : (xs : List X) → every t xs ≡ true → AllByRecursion (λ x. t x ≡ true) xs
   all_from_every [] h = tt
   all_from_every (x ∷ xs) h = let parts = and_parts (t x) (every t xs) h in (parts.0, all_from_every xs parts.1)
 
-  pub every_from_all : (xs : List X) → All (λ x. t x ≡ true) xs → every t xs ≡ true
+  pub every_from_all : (xs : List X) → AllByRecursion (λ x. t x ≡ true) xs → every t xs ≡ true
   every_from_all [] h = refl
   every_from_all (x ∷ xs) h = and_from (t x) (every t xs) h.0 (every_from_all xs h.1)
 
@@ -86,7 +86,7 @@ module _ {X : Type 0} (t : X → Bool) where
   pub any_false : (xs : List X) (x : X) → any t xs ≡ false → Has xs x → t x ≡ false
   any_false xs x h = all-has (λ y. t y ≡ false) xs x (none xs h)
     where
-      none : (xs : List X) → any t xs ≡ false → All (λ x. t x ≡ false) xs
+      none : (xs : List X) → any t xs ≡ false → AllByRecursion (λ x. t x ≡ false) xs
       none [] h = tt
       none (x ∷ xs) h = let parts = or_parts (t x) (any t xs) h in (parts.0, none xs parts.1)
 

@@ -1,7 +1,7 @@
 -- Where a small piece may be, and that there is a place for one more while all pieces are of one class and fewer than the pages have places for.
 use Rattle.std.proofs.Common.{◌≡◌, ℕ, ◌+◌, ◌*◌, ◌/◌, ◌%◌, ◌<◌, ◌≤◌, Bool, true, eqb, List, [], ◌∷◌, length, Decides, refl, ⊎_elim, mul-le-mul_right, mod-lt, mul-le-mul_left, div-add-mod', div-mul-le_self, mul-div_cancel, arith}
 use native.Mathlib.Nat.{lt_of_mul-lt-mul_left, div-add-mod, mul-mod_left}
-use Rattle.std.specs.List.{AllByRecursion as All}
+use Rattle.std.specs.List.{AllByRecursion}
 use Rattle.std.proofs.lemmas.Bool.{eqb-true, and_parts, cases_lt}
 use Rattle.std.proofs.lemmas.Nat.{div_below, le-div}
 use Rattle.std.proofs.lemmas.Bool.Decides.{nat_tests, Decides-below_or}
@@ -90,7 +90,7 @@ module _ (c : ℕ) (some : 0 < c) (fits : c ≤ page) where
         grind (arith, nat_tests)
 
     alike_and_apart :
-        (bs : List Block) → every (λ b. eqb b.room c) bs ≡ true → every (is_laid l) bs ≡ true → All (λ b. a ≡ b.at → ⊥) bs →
+        (bs : List Block) → every (λ b. eqb b.room c) bs ≡ true → every (is_laid l) bs ≡ true → AllByRecursion (λ b. a ≡ b.at → ⊥) bs →
         (page_is_of (a / page) c bs ≡ true) × (apart_all a c bs ≡ true)
     alike_and_apart [] same laid other = (refl, refl)
     alike_and_apart (b ∷ bs) same laid other =

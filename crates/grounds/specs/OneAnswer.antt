@@ -4,7 +4,7 @@
 --     play f l steps      the world after all of the steps, the last of which comes first, from an opening with the limits l on
 --     Possible l steps    each step can happen: bytes can carry what is asked, and what is written are bytes, on the ground
 use Rattle.std.specs.Prelude.{◌≡◌, ℕ, ◌+◌, ◌≤◌, Bool, true, List, [], ◌∷◌, length}
-use Rattle.std.specs.List.{AllByRecursion as All}
+use Rattle.std.specs.List.{AllByRecursion}
 use Rattle.grounds.specs.declared.event.Event.{Event}
 use Rattle.grounds.specs.Lists.{bytes}
 use Rattle.grounds.specs.Blocks.{Limits, ground_size}
@@ -26,7 +26,7 @@ CanHappen l (Asks e) = readable e ≡ true
 CanHappen l (Writes a bs) = (a + length bs ≤ ground_size l) × (bytes bs ≡ true)
 
 abbrev pub Possible : Limits → List Step → Type 0
-Possible l = All (CanHappen l)
+Possible l = AllByRecursion (CanHappen l)
 
 -- The pieces and the ground are the same after the same steps, and so is what is answered next. (What the keepers remember may differ.)
 abbrev pub OneAnswer : (ℕ → Bool) → Type 0

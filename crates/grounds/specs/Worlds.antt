@@ -5,7 +5,7 @@
 --     LivedWell f l w  the same, where others keep to their own: they write only in pieces that are out, and no further than was asked for
 --     GoodLimits can l limits with which an opening is taken, by a keeper that can do the events that `can` says
 use Rattle.std.specs.Prelude.{◌≡◌, ℕ, ◌+◌, ◌%◌, ◌<◌, ◌≤◌, Bool, true, ◌&&◌, List, [], ◌∷◌, length, replicate, ◌==◌, nat_le, nat_lt}
-use Rattle.std.specs.List.{AllByRecursion as All}
+use Rattle.std.specs.List.{AllByRecursion}
 use Rattle.grounds.specs.declared.block.Block.{Block}
 use Rattle.grounds.specs.declared.event.Event.{Event}
 use Rattle.grounds.specs.declared.answer.Answer.{Answer}
@@ -28,7 +28,7 @@ pub record GoodLimits (can : ℕ → Bool) (l : Limits) : Type 0 where
   pub classes_rise : rising 0 l.classes ≡ true
   pub few_rest : l.rests ≤ most_rests
   pub mark_long : length l.marks ≡ mark_length
-  pub mark_bytes : All (λ b. (1 ≤ b) × (b < byte)) l.marks
+  pub mark_bytes : AllByRecursion (λ b. (1 ≤ b) × (b < byte)) l.marks
   pub cans : (k : ℕ) → l.events_can k ≡ can k
 
 -- memory and ground come first, as they are lent; `opens` and `prepared` are of an opening, which does not write on the ground

@@ -1,6 +1,6 @@
 -- A page of small pieces that has a free unit has fewer pieces than units: each piece that touches it begins at a unit of it, and no two at the same.
 use Rattle.std.proofs.Common.{◌≡◌, ℕ, zero, suc, ◌+◌, ◌/◌, ◌%◌, ◌<◌, ◌≤◌, true, false, eqb, ◌⊎◌, List, [], ◌∷◌, sym, refl, ap, ◌∙◌, inl, inr, ⊎_elim, arith}
-use Rattle.std.specs.List.{ContainsAt as Has, AllByRecursion as All}
+use Rattle.std.specs.List.{ContainsAt as Has, AllByRecursion}
 use Rattle.std.proofs.ByRecursion.{all-has, All-weaker, all_has_itself}
 use Rattle.std.proofs.lemmas.Bool.{cases_Bool, cases_lt, cases_eq, eqb-true, eq-eqb}
 use Rattle.grounds.specs.declared.block.Block.{Block}
@@ -50,7 +50,7 @@ sum_lt f small (suc n) u near none =
 -- ---- pieces by where they begin
 
 -- where each piece that touches a page begins at one of n places, the page has no more pieces than begin there
-on_le : (p n : ℕ) (place : ℕ → ℕ) (bs : List Block) → All (λ b. touches p b ≡ true → (v : ℕ) × (v < n) × (b.at ≡ place v)) bs →
+on_le : (p n : ℕ) (place : ℕ → ℕ) (bs : List Block) → AllByRecursion (λ b. touches p b ≡ true → (v : ℕ) × (v < n) × (b.at ≡ place v)) bs →
     on p bs ≤ sum_below (λ v. times (place v) bs) n
 on_le p n place [] begin = omega arith
 on_le p n place (b ∷ bs) begin =

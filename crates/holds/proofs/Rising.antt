@@ -1,6 +1,6 @@
 -- Classes that rise: each is more than 0 and no more than a page, and no two are the same.
 use Rattle.std.proofs.Common.{◌≡◌, ℕ, zero, suc, ◌%◌, ◌<◌, ◌≤◌, true, ◌⊎◌, List, [], ◌∷◌, length, get_or, inl, inr, arith}
-use Rattle.std.specs.List.{AllByRecursion as All}
+use Rattle.std.specs.List.{AllByRecursion}
 use Rattle.std.proofs.ByRecursion.{All-get_or, All-weaker}
 use Rattle.std.proofs.lemmas.Bool.{cases_lt}
 use Rattle.std.proofs.lemmas.Bool.Decides.{nat_tests}
@@ -15,7 +15,7 @@ pub record OfClass (k c : ℕ) : Type 0 where
 first_of : (k c : ℕ) (cs : List ℕ) → rising k (c ∷ cs) ≡ true → OfClass k c × (rising c cs ≡ true)
 first_of k c cs rise = (record { above = grind (arith, nat_tests); grained = grind (arith, nat_tests); fits_page = grind (arith, nat_tests) }, grind (arith, nat_tests))
 
-pub classes_are : (k : ℕ) (cs : List ℕ) → rising k cs ≡ true → All (OfClass k) cs
+pub classes_are : (k : ℕ) (cs : List ℕ) → rising k cs ≡ true → AllByRecursion (OfClass k) cs
 classes_are k [] rise = tt
 classes_are k (c ∷ cs) rise =
     let first = first_of k c cs rise in

@@ -1,6 +1,6 @@
 -- The words of memory after an opening, part by part, and that all are words.
 use Rattle.std.proofs.Common.{◌≡◌, ℕ, ◌+◌, ◌-◌, ◌*◌, ◌/◌, ◌%◌, ◌^◌, ◌<◌, ◌≤◌, Bool, cond, eqb, ltb, ◌⊎◌, List, length, get_or, ap, ◌∙◌, inl, inr, arith}
-use Rattle.std.specs.List.{AllByRecursion as All}
+use Rattle.std.specs.List.{AllByRecursion}
 use Rattle.std.proofs.lemmas.List.FromFn.{length-map-range_with_len, get_or-map-range_with_len}
 use Rattle.std.proofs.lemmas.List.{get_or_past}
 use Rattle.std.proofs.ByRecursion.{All-get_or, All-weaker}
@@ -126,7 +126,7 @@ module _ (l : Limits) where
 -- ---- all are words
 
 -- what a list of small numbers has at a place, also past its end
-small_at : (n : ℕ) (xs : List ℕ) (i : ℕ) → 0 < n → All (λ x. x < n) xs → get_or xs i 0 < n
+small_at : (n : ℕ) (xs : List ℕ) (i : ℕ) → 0 < n → AllByRecursion (λ x. x < n) xs → get_or xs i 0 < n
 small_at n xs i some all = go (cases_lt i (length xs))
   where
     go : (i < length xs) ⊎ (length xs ≤ i) → get_or xs i 0 < n

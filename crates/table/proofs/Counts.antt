@@ -1,6 +1,6 @@
 -- How often a test passes in a list, as elements move from list to list; and what holds of each, likewise.
 use Rattle.std.proofs.Common.{◌≡◌, ℕ, ◌+◌, ◌<◌, Bool, true, false, List, [], ◌∷◌, ◌++◌, Some, count_by, sym, refl, ap, ◌∙◌, append_assoc, arith}
-use Rattle.std.specs.List.{ContainsAt as Has, AllByRecursion as All}
+use Rattle.std.specs.List.{ContainsAt as Has, AllByRecursion}
 use Rattle.std.proofs.ByRecursion.{All-append}
 use Rattle.std.proofs.lemmas.List.Sums.{sum_by-cons, sum_by-append}
 use Rattle.grounds.specs.declared.block.Block.{Block}
@@ -44,11 +44,11 @@ count_found t a bs cs b f =
     ∙ ap (λ (xs : List Block). one_if (t b) + count_by t (xs ++ cs)) (sym p.rest)
 
 -- what holds of each element
-all_parts : {X : Type 0} (P : X → Type 0) (xs ys : List X) → All P (xs ++ ys) → All P xs × All P ys
+all_parts : {X : Type 0} (P : X → Type 0) (xs ys : List X) → AllByRecursion P (xs ++ ys) → AllByRecursion P xs × AllByRecursion P ys
 all_parts P [] ys h = (tt, h)
 all_parts P (x ∷ xs) ys h = let more = all_parts P xs ys h.1 in ((h.0, more.0), more.1)
 
-pub all_bag : {X : Type 0} (P : X → Type 0) → Bag (All P)
+pub all_bag : {X : Type 0} (P : X → Type 0) → Bag (AllByRecursion P)
 all_bag P =
     record {
       front = λ x xs ys h. let p = all_parts P xs (x ∷ ys) h in (p.1.0, All-append P xs ys p.0 p.1.1);
@@ -69,7 +69,7 @@ count_some {X} t (x ∷ xs) h = go (t x) refl (rw (count_cons t x xs) at h) (cou
         let more = rest (omega arith) in
         (more.0, has_later x xs more.0 more.1, more.2)
 
-pub count_none : {X : Type 0} (t : X → Bool) (xs : List X) → count_by t xs ≡ 0 → All (λ x. t x ≡ false) xs
+pub count_none : {X : Type 0} (t : X → Bool) (xs : List X) → count_by t xs ≡ 0 → AllByRecursion (λ x. t x ≡ false) xs
 count_none t [] h = tt
 count_none t (x ∷ xs) h = (go (t x) refl, count_none t xs (omega (arith, count_cons t x xs)))
   where

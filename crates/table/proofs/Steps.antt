@@ -1,6 +1,6 @@
 -- Where a table stands for the pieces, and something happens, the changed table stands for the changed pieces.
 use Rattle.std.proofs.Common.{◌≡◌, ℕ, ◌+◌, ◌/◌, ◌<◌, Bool, true, false, cond, eqb, ◌⊎◌, List, [], ◌∷◌, ◌++◌, map, Some, None, fold, count_by, Option, unwrap_or, sym, refl, ap, ◌∙◌, subst, inl, inr, append_assoc, arith}
-use Rattle.std.specs.List.{ContainsAt as Has, AllByRecursion as All}
+use Rattle.std.specs.List.{ContainsAt as Has, AllByRecursion}
 use Rattle.std.proofs.ByRecursion.{All-weaker, all_has_itself, all-has}
 use Rattle.std.proofs.lemmas.Bool.{cases_Bool, cases_eq, cond-true, cond-false, eq-eqb, ne_eqb}
 use Rattle.grounds.specs.declared.block.Block.{Block}
@@ -31,7 +31,7 @@ new_stands l =
 -- ---- one more piece
 
 -- the table with one more piece knows that piece and the others
-placed_knows : (l : Limits) (t : Table) (b : Block) (bs : List Block) → Laid_out l (b ∷ bs) → All (Knows t) bs → All (Knows (placed t b)) (b ∷ bs)
+placed_knows : (l : Limits) (t : Table) (b : Block) (bs : List Block) → Laid_out l (b ∷ bs) → AllByRecursion (Knows t) bs → AllByRecursion (Knows (placed t b)) (b ∷ bs)
 placed_knows l t b bs out knows = (itself, All-weaker (Has bs) (Knows (placed t b)) others bs (all_has_itself bs))
   where
     itself : Knows (placed t b) b
@@ -108,7 +108,7 @@ module _ (can : ℕ → Bool) (l : Limits) (good : GoodLimits can l) (t : Table)
           laid_out = to_third (Laid_out l) (laid_bag l) b s.out s.resting s.spoilt first;
           knows =
               to_third
-              (All (Knows (placed t b)))
+              (AllByRecursion (Knows (placed t b)))
               (all_bag (Knows (placed t b)))
               b
               s.out
@@ -131,20 +131,20 @@ module _ (can : ℕ → Bool) (l : Limits) (good : GoodLimits can l) (t : Table)
     front : Laid_out l (b ∷ (without a s.out ++ (s.resting ++ s.spoilt)))
     front = out_front (Laid_out l) (laid_bag l) a s.out (s.resting ++ s.spoilt) b f known_pieces.laid_out
 
-    front_knows : All (Knows t) (b ∷ (without a s.out ++ (s.resting ++ s.spoilt)))
-    front_knows = out_front (All (Knows t)) (all_bag (Knows t)) a s.out (s.resting ++ s.spoilt) b f known_pieces.knows
+    front_knows : AllByRecursion (Knows t) (b ∷ (without a s.out ++ (s.resting ++ s.spoilt)))
+    front_knows = out_front (AllByRecursion (Knows t)) (all_bag (Knows t)) a s.out (s.resting ++ s.spoilt) b f known_pieces.knows
 
-    left_some : All (λ c. 0 < c.size) (without a s.out)
+    left_some : AllByRecursion (λ c. 0 < c.size) (without a s.out)
     left_some =
         let p = found a s.out b f in
-        let each : List Block → Type 0 = All (λ c. 0 < c.size) in
+        let each : List Block → Type 0 = AllByRecursion (λ c. 0 < c.size) in
         subst each (sym p.rest) ((all_bag (λ c. 0 < c.size)).front b p.before p.behind (subst each p.split known_pieces.some)).1
 
     pub overrun_pieces : Pieces l (marked_spoilt (sized t a 0) a) (one_overrun s a b)
     overrun_pieces =
         record {
           laid_out = to_third (Laid_out l) (laid_bag l) b (without a s.out) s.resting s.spoilt front;
-          knows = to_third (All (Knows t)) (all_bag (Knows t)) b (without a s.out) s.resting s.spoilt front_knows;
+          knows = to_third (AllByRecursion (Knows t)) (all_bag (Knows t)) b (without a s.out) s.resting s.spoilt front_knows;
           once = λ x.
               count_third (λ c. eqb c.at x) (without a s.out) s.resting b s.spoilt
               ∙ sym (count_found (λ c. eqb c.at x) a s.out (s.resting ++ s.spoilt) b f)
@@ -213,7 +213,7 @@ module _ (l : Limits) (o r sp : List Block) where
   release_one : (t : Table) (c : Block) (gone : List Block) → Pieces l t (resting_so (c ∷ gone)) → Pieces l (released t c.at) (resting_so gone)
   release_one t c gone known_pieces =
       let out = rest_front (Laid_out l) (laid_bag l) c gone known_pieces.laid_out in
-      let knows = rest_front (All (Knows t)) (all_bag (Knows t)) c gone known_pieces.knows in
+      let knows = rest_front (AllByRecursion (Knows t)) (all_bag (Knows t)) c gone known_pieces.knows in
       let lie = first_lies l c _ out in
       let takes : t.kind (c.at / page) ≡ c.room = (knows.0 (c.at / page) (touches_own c (omega (arith, lie)))).0 in
       let same : (p : ℕ) → touches p (known t c.at) ≡ touches p c

@@ -2,7 +2,7 @@
 --     times a bs, on p bs      how many of the pieces bs begin at a; how many touch the page p
 --     Pieces l t s, Stands l t s      t knows the pieces s; and also how they rest: it stands for s
 use Rattle.std.specs.Prelude.{◌≡◌, ℕ, ◌/◌, ◌<◌, ◌≤◌, true, List, map, length, count_by, nat_eq}
-use Rattle.std.specs.List.{AllByRecursion as All}
+use Rattle.std.specs.List.{AllByRecursion}
 use Rattle.grounds.specs.declared.block.Block.{Block}
 use Rattle.grounds.specs.Numbers.{page}
 use Rattle.grounds.specs.Blocks.{Limits}
@@ -23,11 +23,11 @@ Knows t b = (p : ℕ) → touches p b ≡ true → (t.kind p ≡ b.room) × (t.h
 -- what is known of the pieces, but for the order in which they rest
 pub record Pieces (l : Limits) (t : Table) (s : State) : Type 0 where
   pub laid_out : Laid_out l (all_blocks s)
-  pub knows : All (Knows t) (all_blocks s)
+  pub knows : AllByRecursion (Knows t) (all_blocks s)
   pub once : (a : ℕ) → times a (all_blocks s) ≡ t.taken a
   pub pages : (p : ℕ) → on p (all_blocks s) ≡ t.used p
   pub sizes : (a : ℕ) → (out_at s a).size ≡ t.asked a
-  pub some : All (λ b. 0 < b.size) s.out
+  pub some : AllByRecursion (λ b. 0 < b.size) s.out
   pub spoils : (a : ℕ) → times a s.spoilt ≡ t.spoilt a
 
 pub record Stands (l : Limits) (t : Table) (s : State) : Type 0 where
