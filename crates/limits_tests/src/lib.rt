@@ -1,5 +1,5 @@
+// Limits that are taken and limits that are refused, by themselves and as bytes, and the least class of a size, on examples.
 #![tactic(auto)]
 
-// Limits that are taken and limits that are refused, by themselves and as bytes, and the least class of a size, on examples.
 #[cfg(test)]
 mod tests;

@@ -1,5 +1,5 @@
+// Openings that are taken and that are refused, on examples.
 #![tactic(auto)]
 
-// Openings that are taken and that are refused, on examples.
 #[cfg(test)]
 mod tests;

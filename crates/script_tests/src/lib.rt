@@ -1,5 +1,5 @@
+// Lines as they are read and printed, and lines that are refused, on examples.
 #![tactic(auto)]
 
-// Lines as they are read and printed, and lines that are refused, on examples.
 #[cfg(test)]
 mod tests;
