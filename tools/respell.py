@@ -15,6 +15,8 @@ import sys
 TOKEN = re.compile(r"(?<![\w'\-◌])[^\W\d_][\w']*(?:-[\w']+)+")
 # Names that would fall together with a library's or another of this repository's.
 APART = {"bit-and": "bit_of_and", "bit-or": "bit_of_or"}
+# Types that port.py wrote in snake case.
+TYPES = {"Laid_out": "LaidOut"}
 
 
 def camel(name):
@@ -87,6 +89,8 @@ def main():
             print("fall together:", to, sorted(names))
 
     def turn(text):
+        for old, new in TYPES.items():
+            text = re.sub(rf"\b{old}\b", new, text)
         return TOKEN.sub(lambda m: respelt(m.group(0)) if m.group(0) in own else m.group(0), text)
 
     def turn_code(text):

@@ -17,7 +17,7 @@ use Rattle.grounds.specs.Events.{readable}
 use Rattle.grounds.specs.Grounds.{State, all_blocks, find, without, got_at, mark_place, marked, turned, turned_by, good_fields}
 use Rattle.grounds.specs.Worlds.{GoodLimits, Program}
 use Rattle.grounds.specs.Promises.{Right}
-use Rattle.grounds.specs.Statements.{Laid_out, OutKeeps, BackOnce, MarkTells, FoundExactly}
+use Rattle.grounds.specs.Statements.{LaidOut, OutKeeps, BackOnce, MarkTells, FoundExactly}
 use Rattle.grounds.proofs.Parts.{part_over_out}
 use Rattle.grounds.proofs.Found.{find_at, find_has, find_past, find_without, find_none}
 use Rattle.grounds.proofs.Apart.{Apart, Lies}
@@ -92,7 +92,7 @@ out_keeps can f right l w e b good lived readable found other =
 -- ---- a give back
 
 -- what begins where a piece begins is that piece
-pub none_left : (l : Limits) (s : State) (a : ℕ) (b : Block) → Laid_out l (all_blocks s) → find a s.out ≡ Some b → find a (without a s.out) ≡ None
+pub none_left : (l : Limits) (s : State) (a : ℕ) (b : Block) → LaidOut l (all_blocks s) → find a s.out ≡ Some b → find a (without a s.out) ≡ None
 none_left l s a b out found =
     let at = find_at a s.out b found in
     let first = found_first l s a b out found in
@@ -118,7 +118,7 @@ give_turned can l good able s a b found =
     ∙ cond-true (is_some (find a s.out)) None (Some NotOut) (ap is_some found)
 
 module _ (l : Limits) {s : State} {g : List ℕ} where
-  step_back : {a : ℕ} {x : Answer} {h : List ℕ} {t : State} → Happened l s g (Give a) x h t → Laid_out l (all_blocks s) → turned l s (Give a) ≡ None →
+  step_back : {a : ℕ} {x : Answer} {h : List ℕ} {t : State} → Happened l s g (Give a) x h t → LaidOut l (all_blocks s) → turned l s (Give a) ≡ None →
       find a t.out ≡ None
   step_back (turns_away r t) out taken = absurd (true≢false (ap is_some (sym t ∙ taken)))
   step_back (gives a b found m) out taken = none_left l s a b out found

@@ -12,7 +12,7 @@ use Rattle.grounds.specs.Blocks.{Limits, ground_size, may_be}
 use Rattle.grounds.specs.Grounds.{State, new_state, all_blocks, find, without, got_at, mark_place}
 use Rattle.grounds.specs.Worlds.{GoodLimits, Program, World, Lived, new, asks, writes}
 use Rattle.grounds.specs.Promises.{Right}
-use Rattle.grounds.specs.Statements.{Laid_out, NobodyElses, GroundKeeps}
+use Rattle.grounds.specs.Statements.{LaidOut, NobodyElses, GroundKeeps}
 use Rattle.grounds.proofs.Lists.{every_from_all, every_replicate}
 use Rattle.grounds.proofs.Parts.{length_over, bytes_over}
 use Rattle.grounds.proofs.Found.{find_at}
@@ -21,20 +21,20 @@ use Rattle.grounds.proofs.Happened.{Happened, turns_away, gets, spoils, gives, o
 use Rattle.grounds.proofs.Laid.{laid_bag, out_front, first_lies, none_laid, got_laid, step_laid}
 
 pub record Kept (l : Limits) (s : State) (g : List ℕ) : Type 0 where
-  pub laid_out : Laid_out l (all_blocks s)
+  pub laid_out : LaidOut l (all_blocks s)
   pub long : length g ≡ ground_size l
   pub all_bytes : bytes g ≡ true
 
 -- the piece that is found, before all others
-pub found_first : (l : Limits) (s : State) (a : ℕ) (b : Block) → Laid_out l (all_blocks s) → find a s.out ≡ Some b →
-    Laid_out l (b ∷ (without a s.out ++ (s.resting ++ s.spoilt)))
-found_first l s a b out f = out_front (Laid_out l) (laid_bag l) a s.out (s.resting ++ s.spoilt) b f out
+pub found_first : (l : Limits) (s : State) (a : ℕ) (b : Block) → LaidOut l (all_blocks s) → find a s.out ≡ Some b →
+    LaidOut l (b ∷ (without a s.out ++ (s.resting ++ s.spoilt)))
+found_first l s a b out f = out_front (LaidOut l) (laid_bag l) a s.out (s.resting ++ s.spoilt) b f out
 
-pub found_lies : (l : Limits) (s : State) (a : ℕ) (b : Block) → Laid_out l (all_blocks s) → find a s.out ≡ Some b → Lies l b
+pub found_lies : (l : Limits) (s : State) (a : ℕ) (b : Block) → LaidOut l (all_blocks s) → find a s.out ≡ Some b → Lies l b
 found_lies l s a b out f = first_lies l b _ (found_first l s a b out f)
 
 module _ (can : ℕ → Bool) (l : Limits) (good : GoodLimits can l) where
-  pub got_lies : (n a : ℕ) (bs : List Block) → may_be l n a bs ≡ true → Laid_out l bs → Lies l (got_at l n a)
+  pub got_lies : (n a : ℕ) (bs : List Block) → may_be l n a bs ≡ true → LaidOut l bs → Lies l (got_at l n a)
   got_lies n a bs may out = first_lies l (got_at l n a) bs (got_laid can l good n a bs may out)
 
   pub mark_bytes : bytes l.marks ≡ true
@@ -47,7 +47,7 @@ module _ (can : ℕ → Bool) (l : Limits) (good : GoodLimits can l) where
   pub block_inside : (a : ℕ) (b : Block) (g : List ℕ) → b.at ≡ a → Lies l b → length g ≡ ground_size l → a + length (replicate {A = ℕ} b.room 0) ≤ length g
   block_inside a b g at lie long = omega (arith, lie, length-replicate {A = ℕ} b.room 0)
 
-  step_long : {s t : State} {g h : List ℕ} {e : Event} {x : Answer} → Happened l s g e x h t → Laid_out l (all_blocks s) → length g ≡ ground_size l →
+  step_long : {s t : State} {g h : List ℕ} {e : Event} {x : Answer} → Happened l s g e x h t → LaidOut l (all_blocks s) → length g ≡ ground_size l →
       length h ≡ ground_size l
   step_long {s} {g = g} what out long = go what
     where

@@ -12,7 +12,7 @@ use Rattle.grounds.specs.Lists.{every, each_pair}
 use Rattle.grounds.specs.Blocks.{Limits, class_of, large, room_for, apart, may_be}
 use Rattle.grounds.specs.Grounds.{State, all_blocks, find, without, got_at}
 use Rattle.grounds.specs.Worlds.{GoodLimits}
-use Rattle.grounds.specs.Statements.{is_laid, share_well, Laid_out}
+use Rattle.grounds.specs.Statements.{is_laid, share_well, LaidOut}
 use Rattle.grounds.proofs.Lists.{every_has, every_from_has}
 use Rattle.grounds.proofs.Bags.{Bag, every_bag, pair_bag, to_second, to_third}
 use Rattle.grounds.proofs.Found.{found}
@@ -20,7 +20,7 @@ use Rattle.grounds.proofs.Classes.{class_fits, room_has, room_large, room_small,
 use Rattle.grounds.proofs.Apart.{Apart, apart_tells, apart_from, not_apart, apart_swaps, SmallThere, may_small, LargeThere, may_large, Lies, lies, laid}
 use Rattle.grounds.proofs.Happened.{Happened, turns_away, gets, spoils, gives, overruns, sizes, looks_overrun, looks_harmed, looks_whole}
 
-pub none_laid : (l : Limits) → Laid_out l []
+pub none_laid : (l : Limits) → LaidOut l []
 none_laid l = record { no_shared_byte = refl; all_laid = refl; pages_of_one = λ p. refl }
 
 -- ---- it is a property of the bag of pieces
@@ -45,7 +45,7 @@ share_swaps l p b c =
     (ltb 0 (class_of c.size l.classes))
     (λ same. eq-eqb c.room b.room (sym (eqb-true b.room c.room same)))
 
-pub laid_bag : (l : Limits) → Bag (Laid_out l)
+pub laid_bag : (l : Limits) → Bag (LaidOut l)
 laid_bag l =
     let pairs = pair_bag (λ (b : Block). apart b.at b.room) apart_swaps in
     let each = every_bag (is_laid l) in
@@ -96,8 +96,8 @@ multiples x c h k =
 
 module _ (can : ℕ → Bool) (l : Limits) (good : GoodLimits can l) (n a : ℕ) (bs : List Block) where
   got_from : Lies l (got_at l n a) → every (apart a (room_for l n)) bs ≡ true →
-      ((p : ℕ) (d : Block) → Has bs d → apart (p * page) page (got_at l n a) ≡ false → share_well l p (got_at l n a) d ≡ true) → Laid_out l bs →
-      Laid_out l (got_at l n a ∷ bs)
+      ((p : ℕ) (d : Block) → Has bs d → apart (p * page) page (got_at l n a) ≡ false → share_well l p (got_at l n a) d ≡ true) → LaidOut l bs →
+      LaidOut l (got_at l n a ∷ bs)
   got_from lie free share was =
       record {
         no_shared_byte = and_from (every (apart a (room_for l n)) bs) _ free was.no_shared_byte;
@@ -113,7 +113,7 @@ module _ (can : ℕ → Bool) (l : Limits) (good : GoodLimits can l) (n a : ℕ)
           go (inl far) = or_left _ _ (or_left _ _ far)
           go (inr near) = share p d has near
 
-  got_small : 0 < class_of n l.classes → may_be l n a bs ≡ true → Laid_out l bs → Laid_out l (got_at l n a ∷ bs)
+  got_small : 0 < class_of n l.classes → may_be l n a bs ≡ true → LaidOut l bs → LaidOut l (got_at l n a ∷ bs)
   got_small some may was = got_from lie (subst (λ (r : ℕ). every (apart a r) bs ≡ true) (sym takes) there.free) share was
     where
       there : SmallThere l (class_of n l.classes) a bs
@@ -161,7 +161,7 @@ module _ (can : ℕ → Bool) (l : Limits) (good : GoodLimits can l) (n a : ℕ)
               (lt-ltb 0 (class_of n l.classes) some)
               (lt-ltb 0 (class_of d.size l.classes) small)))
 
-  got_large : class_of n l.classes ≡ 0 → may_be l n a bs ≡ true → Laid_out l bs → Laid_out l (got_at l n a ∷ bs)
+  got_large : class_of n l.classes ≡ 0 → may_be l n a bs ≡ true → LaidOut l bs → LaidOut l (got_at l n a ∷ bs)
   got_large none may was = got_from lie (subst (λ (r : ℕ). every (apart a r) bs ≡ true) (sym takes) there.free) share was
     where
       there : LargeThere l n a bs
@@ -191,16 +191,16 @@ module _ (can : ℕ → Bool) (l : Limits) (good : GoodLimits can l) (n a : ℕ)
           go (inl past) = inl (omega (arith, takes, there, not_apart (p * page) page (got_at l n a) near))
           go (inr before) = inr (omega (arith, takes, there, not_apart (p * page) page (got_at l n a) near))
 
-  pub got_laid : may_be l n a bs ≡ true → Laid_out l bs → Laid_out l (got_at l n a ∷ bs)
+  pub got_laid : may_be l n a bs ≡ true → LaidOut l bs → LaidOut l (got_at l n a ∷ bs)
   got_laid may was = go (cases_lt 0 (class_of n l.classes))
     where
-      go : (0 < class_of n l.classes) ⊎ (class_of n l.classes ≤ 0) → Laid_out l (got_at l n a ∷ bs)
+      go : (0 < class_of n l.classes) ⊎ (class_of n l.classes ≤ 0) → LaidOut l (got_at l n a ∷ bs)
       go (inl some) = got_small some may was
       go (inr few) = got_large (omega arith) may was
 
 -- ---- what it tells of the first piece and the others
 
-module _ (l : Limits) (b : Block) (bs : List Block) (out : Laid_out l (b ∷ bs)) where
+module _ (l : Limits) (b : Block) (bs : List Block) (out : LaidOut l (b ∷ bs)) where
   pub first_lies : Lies l b
   first_lies = lies l b (and_parts (is_laid l b) (every (is_laid l) bs) out.all_laid).0
 
@@ -220,18 +220,18 @@ module _ (l : Limits) (b : Block) (bs : List Block) (out : Laid_out l (b ∷ bs)
 -- ---- and whatever happens
 
 pub step_laid : (can : ℕ → Bool) (l : Limits) → GoodLimits can l → {s t : State} {g h : List ℕ} {e : Event} {x : Answer} → Happened l s g e x h t →
-    Laid_out l (all_blocks s) → Laid_out l (all_blocks t)
+    LaidOut l (all_blocks s) → LaidOut l (all_blocks t)
 step_laid can l good {s} what was = go what
   where
-    go : {t : State} {g h : List ℕ} {e : Event} {x : Answer} → Happened l s g e x h t → Laid_out l (all_blocks t)
+    go : {t : State} {g h : List ℕ} {e : Event} {x : Answer} → Happened l s g e x h t → LaidOut l (all_blocks t)
     go (turns_away r t) = was
     go (gets n a asked may clean) = got_laid can l good n a (all_blocks s) may was
     go (spoils n a asked may clean) =
-        to_third (Laid_out l) (laid_bag l) (got_at l n a) s.out s.resting s.spoilt (got_laid can l good n a (all_blocks s) may was)
+        to_third (LaidOut l) (laid_bag l) (got_at l n a) s.out s.resting s.spoilt (got_laid can l good n a (all_blocks s) may was)
     go (gives a b f m) =
-        to_second (Laid_out l) (laid_bag l) l.rests b (without a s.out) s.resting s.spoilt (out_front (Laid_out l) (laid_bag l) a s.out _ b f was)
+        to_second (LaidOut l) (laid_bag l) l.rests b (without a s.out) s.resting s.spoilt (out_front (LaidOut l) (laid_bag l) a s.out _ b f was)
     go (overruns a b f m) =
-        to_third (Laid_out l) (laid_bag l) b (without a s.out) s.resting s.spoilt (out_front (Laid_out l) (laid_bag l) a s.out _ b f was)
+        to_third (LaidOut l) (laid_bag l) b (without a s.out) s.resting s.spoilt (out_front (LaidOut l) (laid_bag l) a s.out _ b f was)
     go (sizes a b f) = was
     go (looks_overrun b f m) = was
     go (looks_harmed a i w) = was

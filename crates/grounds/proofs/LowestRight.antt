@@ -13,7 +13,7 @@ use Rattle.grounds.specs.Blocks.{Limits, ground_size, apart, may_be}
 use Rattle.grounds.specs.Grounds.{State, all_blocks, find, out_at, mark_place, marked, turned, byte_whole, bytes_whole, marks_whole, all_whole, clean_there}
 use Rattle.grounds.specs.Lowest.{lowest_place, lowest_overrun, lowest_harm, look_answer, lowest_answer}
 use Rattle.grounds.specs.Promises.{RightAnswer}
-use Rattle.grounds.specs.Statements.{is_laid, Laid_out}
+use Rattle.grounds.specs.Statements.{is_laid, LaidOut}
 use Rattle.grounds.proofs.Lists.{has_cases, has_here, has_later, every_has, every_from_has, any_true, any_from_has, pair_of}
 use Rattle.grounds.proofs.First.{first_hit, first_found}
 use Rattle.grounds.proofs.Apart.{Apart, apart_tells, apart_swaps, Lies, lies}
@@ -36,7 +36,7 @@ find_only (c ∷ cs) b has only = go (cases_eq b.at c.at) (has_cases c cs b has)
         cond-false (eqb b.at c.at) (Some c) (find b.at cs) (ne_eqb b.at c.at other)
         ∙ rest later (λ d hd. only d (has_later c cs d hd))
 
-module _ (l : Limits) (s : State) (out : Laid_out l (all_blocks s)) where
+module _ (l : Limits) (s : State) (out : LaidOut l (all_blocks s)) where
   in_all : (b : Block) → Has s.out b → Has (all_blocks s) b
   in_all b has = has_append_left s.out (s.resting ++ s.spoilt) b has
 
@@ -127,7 +127,7 @@ module _ (l : Limits) (s : State) (out : Laid_out l (all_blocks s)) where
         (λ k. harm_right (ltb-true h (ground_size l) k))
         (λ k. whole_right (ltb-false m (ground_size l) e) (ltb-false h (ground_size l) k)))
 
-pub lowest_right : (l : Limits) (s : State) (g : List ℕ) → Laid_out l (all_blocks s) → (e : Event) → turned l s e ≡ None →
+pub lowest_right : (l : Limits) (s : State) (g : List ℕ) → LaidOut l (all_blocks s) → (e : Event) → turned l s e ≡ None →
     RightAnswer l s g e (lowest_answer l s g e)
 unfolding RightAnswer lowest_answer
 lowest_right l s g out (Get n) taken =

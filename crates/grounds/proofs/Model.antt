@@ -12,7 +12,7 @@ use Rattle.grounds.specs.Grounds.{State, all_blocks, place_of, after, ground_aft
 use Rattle.grounds.specs.Lowest.{lowest_answer, by_turned, the_answer}
 use Rattle.grounds.specs.Worlds.{GoodLimits, World, Lived, new, asks, writes}
 use Rattle.grounds.specs.Promises.{RightAnswer, RightStep, Right, Lowest}
-use Rattle.grounds.specs.Statements.{Laid_out}
+use Rattle.grounds.specs.Statements.{LaidOut}
 use Rattle.grounds.specs.Model.{listed, in_front, behind, flat, blocks, noted, limits_in, state_in, model}
 use Rattle.grounds.proofs.Happened.{after_refused, ground_refused, happened}
 use Rattle.grounds.proofs.Kept.{Kept, new_kept, step_kept, write_kept}
@@ -101,7 +101,7 @@ module _ (can : ℕ → Bool) (l : Limits) (good : GoodLimits can l) (w : World)
       ground_after (limits_in can w.memory) (state_in w.memory) w.ground e x ≡ ground_after l w.state w.ground e x
   ground_is e x i = ground_after (limits_read i) (state_read i) w.ground e x
 
-  model_step : Laid_out l (all_blocks w.state) → (e : Event) → RightStep (model can) l w e
+  model_step : LaidOut l (all_blocks w.state) → (e : Event) → RightStep (model can) l w e
   unfolding by_turned
   model_step out e =
       record {

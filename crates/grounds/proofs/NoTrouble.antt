@@ -18,7 +18,7 @@ use Rattle.grounds.specs.Events.{is_harm}
 use Rattle.grounds.specs.Grounds.{State, new_state, all_blocks, find, without, got_at, mark_place, marked, clean_there, is_inside, byte_whole, bytes_whole, marks_whole, all_whole}
 use Rattle.grounds.specs.Worlds.{GoodLimits, Program, World, Lived, LivedWell, new, asks, writes}
 use Rattle.grounds.specs.Promises.{Right}
-use Rattle.grounds.specs.Statements.{is_laid, Laid_out, NoTrouble}
+use Rattle.grounds.specs.Statements.{is_laid, LaidOut, NoTrouble}
 use Rattle.grounds.proofs.Lists.{every_has, every_from_has, any_true, any_false, same_refl, has_here, has_later, has_cases, has_parts, pair_of}
 use Rattle.grounds.proofs.Parts.{get_or_over_in, get_or_over_out, part_over_in, part_over_out, length_part_le, get_d_part, zero_from_reads}
 use Rattle.grounds.proofs.Found.{found, find_at, find_has}
@@ -143,7 +143,7 @@ module _ (can : ℕ → Bool) (l : Limits) (good : GoodLimits can l) (s : State)
       past i short b (inr after) = inr (omega arith)
 
   module _ (n a : ℕ) (may : may_be l n a (all_blocks s) ≡ true) (now : Kept l (one_out l s n a) (over (mark_place (got_at l n a)) l.marks g)) where
-    first : Laid_out l (got_at l n a ∷ all_blocks s)
+    first : LaidOut l (got_at l n a ∷ all_blocks s)
     first = got_laid can l good n a (all_blocks s) may well.kept.laid_out
 
     lie : Lies l (got_at l n a)
@@ -190,7 +190,7 @@ module _ (can : ℕ → Bool) (l : Limits) (good : GoodLimits can l) (s : State)
     begins : b.at ≡ a
     begins = find_at a s.out b f
 
-    given : Laid_out l (b ∷ (without a s.out ++ (s.resting ++ s.spoilt)))
+    given : LaidOut l (b ∷ (without a s.out ++ (s.resting ++ s.spoilt)))
     given = found_first l s a b well.kept.laid_out f
 
     given_inside : a + length (replicate {A = ℕ} b.room 0) ≤ length g

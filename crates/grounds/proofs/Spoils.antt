@@ -11,7 +11,7 @@ use Rattle.grounds.specs.Blocks.{Limits}
 use Rattle.grounds.specs.Grounds.{State, all_blocks, find, without, out_at, got_at, after}
 use Rattle.grounds.specs.Worlds.{GoodLimits, Program}
 use Rattle.grounds.specs.Promises.{Right}
-use Rattle.grounds.specs.Statements.{Laid_out, SpoiltStays, SpoiltFound}
+use Rattle.grounds.specs.Statements.{LaidOut, SpoiltStays, SpoiltFound}
 use Rattle.grounds.proofs.Lists.{has_later}
 use Rattle.grounds.proofs.Found.{find_has, find_past}
 use Rattle.grounds.proofs.Happened.{Happened, turns_away, gets, spoils, gives, overruns, sizes, looks_overrun, looks_harmed, looks_whole, happened}
@@ -38,7 +38,7 @@ spoilt_stays l s (Size c) x b has = has
 spoilt_stays l s Look x b has = has
 spoilt_stays l s (Garbled n) x b has = has
 
-module _ (can : ℕ → Bool) (l : Limits) (good : GoodLimits can l) (s : State) (g : List ℕ) (out : Laid_out l (all_blocks s)) (b : Block)
+module _ (can : ℕ → Bool) (l : Limits) (good : GoodLimits can l) (s : State) (g : List ℕ) (out : LaidOut l (all_blocks s)) (b : Block)
     (f : find b.at s.spoilt ≡ Some b) where
   has_behind : (bs : List Block) → Has (bs ++ (s.resting ++ s.spoilt)) b
   has_behind bs =

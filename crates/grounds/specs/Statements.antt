@@ -1,5 +1,5 @@
 -- What follows for a keeper whose answers are right, however it works: each is a statement, a type whose proof is owed. Assumes nothing.
---     Laid_out l bs         no two pieces share a byte, all are where a piece may be, and a page has pieces of one class or one large piece
+--     LaidOut l bs         no two pieces share a byte, all are where a piece may be, and a page has pieces of one class or one large piece
 --     ChangedBy l s e x a  the byte at a is one that an event e, answered by x, may change
 use Rattle.std.specs.Prelude.{◌≡◌, ℕ, ◌+◌, ◌*◌, ◌/◌, ◌%◌, ◌<◌, ◌≤◌, Bool, true, false, cond, ◌&&◌, ◌||◌, ◌⊎◌, List, [], ◌++◌, length, Some, None, ◌==◌, ◌≢◌, nat_eq, nat_le, nat_lt, slice_index}
 use Rattle.std.specs.List.{ContainsAt as Has}
@@ -37,7 +37,7 @@ share_well l p b c =
     (apart (p * page) page b || apart (p * page) page c)
     || (b.room == c.room && (nat_lt 0 (class_of b.size l.classes) && nat_lt 0 (class_of c.size l.classes)))
 
-pub record Laid_out (l : Limits) (bs : List Block) : Type 0 where
+pub record LaidOut (l : Limits) (bs : List Block) : Type 0 where
   pub no_shared_byte : each_pair (λ b. apart b.at b.room) bs ≡ true
   pub all_laid : every (is_laid l) bs ≡ true
   pub pages_of_one : (p : ℕ) → each_pair (share_well l p) bs ≡ true
@@ -45,7 +45,7 @@ pub record Laid_out (l : Limits) (bs : List Block) : Type 0 where
 -- No two pieces, out, resting or spoilt, share a byte; all lie in the ground, begin at multiples of the grain, and take what was asked for and
 -- the mark. All small pieces that touch a page take the same, and a large piece has its pages to itself.
 abbrev pub NobodyElses : (ℕ → Bool) → Program → Type 0
-NobodyElses can f = (l : Limits) (w : World) → GoodLimits can l → Lived f l w → Laid_out l (all_blocks w.state)
+NobodyElses can f = (l : Limits) (w : World) → GoodLimits can l → Lived f l w → LaidOut l (all_blocks w.state)
 
 -- The ground keeps its length, and each of its numbers is a byte.
 abbrev pub GroundKeeps : (ℕ → Bool) → Program → Type 0

@@ -7,7 +7,7 @@ use Rattle.grounds.specs.declared.block.Block.{Block}
 use Rattle.grounds.specs.Numbers.{page, grain}
 use Rattle.grounds.specs.Blocks.{Limits, class_of}
 use Rattle.grounds.specs.Grounds.{State, all_blocks}
-use Rattle.grounds.specs.Statements.{is_laid, Laid_out}
+use Rattle.grounds.specs.Statements.{is_laid, LaidOut}
 use Rattle.grounds.proofs.Lists.{every_has}
 use Rattle.grounds.proofs.Classes.{room_large, large_some_pages}
 use Rattle.grounds.proofs.Apart.{Lies, lies}
@@ -70,7 +70,7 @@ on_le p n place (b ∷ bs) begin =
         )
 
 -- no two pieces begin at one place
-pub times_le : (l : Limits) (a : ℕ) (bs : List Block) → Laid_out l bs → times a bs ≤ 1
+pub times_le : (l : Limits) (a : ℕ) (bs : List Block) → LaidOut l bs → times a bs ≤ 1
 times_le l a [] out = omega arith
 times_le l a (b ∷ bs) out = go (cases_Bool (eqb b.at a)) (cases_lt 0 (times a bs)) (times_le l a bs ((laid_bag l).less b bs out))
   where

@@ -8,7 +8,7 @@ use Rattle.grounds.specs.Numbers.{page}
 use Rattle.grounds.specs.Blocks.{Limits, may_be}
 use Rattle.grounds.specs.Grounds.{State, new_state, all_blocks, find, without, out_at, got_at}
 use Rattle.grounds.specs.Worlds.{GoodLimits}
-use Rattle.grounds.specs.Statements.{Laid_out}
+use Rattle.grounds.specs.Statements.{LaidOut}
 use Rattle.grounds.proofs.Bags.{Bag, to_third}
 use Rattle.grounds.proofs.Found.{found, find_at, find_past, find_without}
 use Rattle.grounds.proofs.Happened.{one_out, one_spoilt, one_overrun}
@@ -31,7 +31,7 @@ new_stands l =
 -- ---- one more piece
 
 -- the table with one more piece knows that piece and the others
-placed_knows : (l : Limits) (t : Table) (b : Block) (bs : List Block) → Laid_out l (b ∷ bs) → AllByRecursion (Knows t) bs → AllByRecursion (Knows (placed t b)) (b ∷ bs)
+placed_knows : (l : Limits) (t : Table) (b : Block) (bs : List Block) → LaidOut l (b ∷ bs) → AllByRecursion (Knows t) bs → AllByRecursion (Knows (placed t b)) (b ∷ bs)
 placed_knows l t b bs out knows = (itself, All-weaker (Has bs) (Knows (placed t b)) others bs (all_has_itself bs))
   where
     itself : Knows (placed t b) b
@@ -68,7 +68,7 @@ out_sized s b x m e = go (cases_eq b.at x)
         ∙ sym (cond-false (eqb b.at x) b.size m (ne_eqb b.at x other))
 
 -- and with one out no more
-out_left : (l : Limits) (s : State) (r sp : List Block) (a : ℕ) (b : Block) (x : ℕ) (m : ℕ) → Laid_out l (all_blocks s) → find a s.out ≡ Some b →
+out_left : (l : Limits) (s : State) (r sp : List Block) (a : ℕ) (b : Block) (x : ℕ) (m : ℕ) → LaidOut l (all_blocks s) → find a s.out ≡ Some b →
     (out_at s x).size ≡ m → (out_at (record { out = without a s.out; resting = r; spoilt = sp }) x).size ≡ cond (eqb a x) 0 m
 out_left l s r sp a b x m out f e = go (cases_eq a x)
   where
@@ -85,7 +85,7 @@ out_left l s r sp a b x m out f e = go (cases_eq a x)
 
 module _ (can : ℕ → Bool) (l : Limits) (good : GoodLimits can l) (t : Table) (s : State) (known_pieces : Pieces l t s) where
   module _ (n a : ℕ) (may : may_be l n a (all_blocks s) ≡ true) where
-    first : Laid_out l (got_at l n a ∷ all_blocks s)
+    first : LaidOut l (got_at l n a ∷ all_blocks s)
     first = got_laid can l good n a (all_blocks s) may known_pieces.laid_out
 
     pub got_pieces : 0 < n → Pieces l (sized (placed t (got_at l n a)) a n) (one_out l s n a)
@@ -105,7 +105,7 @@ module _ (can : ℕ → Bool) (l : Limits) (good : GoodLimits can l) (t : Table)
     spoilt_pieces =
         let b = got_at l n a in
         record {
-          laid_out = to_third (Laid_out l) (laid_bag l) b s.out s.resting s.spoilt first;
+          laid_out = to_third (LaidOut l) (laid_bag l) b s.out s.resting s.spoilt first;
           knows =
               to_third
               (AllByRecursion (Knows (placed t b)))
@@ -128,8 +128,8 @@ module _ (can : ℕ → Bool) (l : Limits) (good : GoodLimits can l) (t : Table)
     begins : b.at ≡ a
     begins = find_at a s.out b f
 
-    front : Laid_out l (b ∷ (without a s.out ++ (s.resting ++ s.spoilt)))
-    front = out_front (Laid_out l) (laid_bag l) a s.out (s.resting ++ s.spoilt) b f known_pieces.laid_out
+    front : LaidOut l (b ∷ (without a s.out ++ (s.resting ++ s.spoilt)))
+    front = out_front (LaidOut l) (laid_bag l) a s.out (s.resting ++ s.spoilt) b f known_pieces.laid_out
 
     front_knows : AllByRecursion (Knows t) (b ∷ (without a s.out ++ (s.resting ++ s.spoilt)))
     front_knows = out_front (AllByRecursion (Knows t)) (all_bag (Knows t)) a s.out (s.resting ++ s.spoilt) b f known_pieces.knows
@@ -143,7 +143,7 @@ module _ (can : ℕ → Bool) (l : Limits) (good : GoodLimits can l) (t : Table)
     pub overrun_pieces : Pieces l (marked_spoilt (sized t a 0) a) (one_overrun s a b)
     overrun_pieces =
         record {
-          laid_out = to_third (Laid_out l) (laid_bag l) b (without a s.out) s.resting s.spoilt front;
+          laid_out = to_third (LaidOut l) (laid_bag l) b (without a s.out) s.resting s.spoilt front;
           knows = to_third (AllByRecursion (Knows t)) (all_bag (Knows t)) b (without a s.out) s.resting s.spoilt front_knows;
           once = λ x.
               count_third (λ c. eqb c.at x) (without a s.out) s.resting b s.spoilt
@@ -212,7 +212,7 @@ module _ (l : Limits) (o r sp : List Block) where
 
   release_one : (t : Table) (c : Block) (gone : List Block) → Pieces l t (resting_so (c ∷ gone)) → Pieces l (released t c.at) (resting_so gone)
   release_one t c gone known_pieces =
-      let out = rest_front (Laid_out l) (laid_bag l) c gone known_pieces.laid_out in
+      let out = rest_front (LaidOut l) (laid_bag l) c gone known_pieces.laid_out in
       let knows = rest_front (AllByRecursion (Knows t)) (all_bag (Knows t)) c gone known_pieces.knows in
       let lie = first_lies l c _ out in
       let takes : t.kind (c.at / page) ≡ c.room = (knows.0 (c.at / page) (touches_own c (omega (arith, lie)))).0 in

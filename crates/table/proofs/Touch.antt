@@ -7,7 +7,7 @@ use Rattle.grounds.specs.declared.block.Block.{Block}
 use Rattle.grounds.specs.Numbers.{page}
 use Rattle.grounds.specs.Lists.{every, each_pair}
 use Rattle.grounds.specs.Blocks.{Limits, class_of, apart}
-use Rattle.grounds.specs.Statements.{share_well, Laid_out}
+use Rattle.grounds.specs.Statements.{share_well, LaidOut}
 use Rattle.grounds.proofs.Lists.{every_has}
 use Rattle.grounds.proofs.Apart.{not_apart}
 use Rattle.grounds.proofs.Laid.{first_lies, others_lie}
@@ -28,7 +28,7 @@ pub record Share (b c : Block) : Type 0 where
   pub beside : b.at / page ≡ c.at / page
 
 -- two pieces that touch one page take the same, and begin on the same page
-pub share : (l : Limits) (b : Block) (bs : List Block) → Laid_out l (b ∷ bs) → (c : Block) → Has bs c → (p : ℕ) → touches p b ≡ true → touches p c ≡ true →
+pub share : (l : Limits) (b : Block) (bs : List Block) → LaidOut l (b ∷ bs) → (c : Block) → Has bs c → (p : ℕ) → touches p b ≡ true → touches p c ≡ true →
     Share b c
 share l b bs out c has p tb tc = go (or_cases (apart (p * page) page b || apart (p * page) page c) alike well)
   where

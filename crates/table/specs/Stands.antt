@@ -7,7 +7,7 @@ use Rattle.grounds.specs.declared.block.Block.{Block}
 use Rattle.grounds.specs.Numbers.{page}
 use Rattle.grounds.specs.Blocks.{Limits}
 use Rattle.grounds.specs.Grounds.{State, all_blocks, out_at}
-use Rattle.grounds.specs.Statements.{Laid_out}
+use Rattle.grounds.specs.Statements.{LaidOut}
 use Rattle.table.specs.Table.{Table, touches}
 
 abbrev pub times : ℕ → List Block → ℕ
@@ -22,7 +22,7 @@ Knows t b = (p : ℕ) → touches p b ≡ true → (t.kind p ≡ b.room) × (t.h
 
 -- what is known of the pieces, but for the order in which they rest
 pub record Pieces (l : Limits) (t : Table) (s : State) : Type 0 where
-  pub laid_out : Laid_out l (all_blocks s)
+  pub laid_out : LaidOut l (all_blocks s)
   pub knows : AllByRecursion (Knows t) (all_blocks s)
   pub once : (a : ℕ) → times a (all_blocks s) ≡ t.taken a
   pub pages : (p : ℕ) → on p (all_blocks s) ≡ t.used p
