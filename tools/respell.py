@@ -12,7 +12,7 @@ import os
 import re
 import sys
 
-TOKEN = re.compile(r"(?<![\w'\-◌])[^\W\d_][\w']*(?:-[\w']+)+")
+TOKEN = re.compile(r"(?<![\w'\-◌])[^\W\d_][\w']*(?:-[\w']+)+(?![\w']|\.txt)")
 # Names that would fall together with a library's or another of this repository's.
 APART = {"bit-and": "bit_of_and", "bit-or": "bit_of_or"}
 # Types that port.py wrote in snake case.

@@ -3,7 +3,7 @@
 --     number_bytes n        n as eight bytes, the lowest first; number_of bs, the number that bytes hold so
 --     event_bytes e         an event's number, as one byte, and then what it carries, as eight bytes each; answer_bytes x, the same of an answer
 --     carried e             whether bytes can carry e: it is an event, and what it carries fits eight bytes
---     CouldBegin bs        some event's bytes begin with bs
+--     CouldBegin bs         some event's bytes begin with bs
 --     Longest bs n          the first n of bs are its longest front that could begin an event
 use Rattle.std.specs.Prelude.{◌≡◌, ℕ, zero, suc, ◌+◌, ◌*◌, ◌/◌, ◌%◌, ◌<◌, ◌≤◌, Bool, true, not, ◌&&◌, List, [], ◌∷◌, ◌++◌, length, take}
 use Rattle.std.specs.List.{flat_map}

@@ -1,6 +1,6 @@
 -- Reading and writing: what is promised, and what is read as a function of the bytes. Assumes nothing: these are definitions and statements.
 --     Reads bs e            e is what bs is read as: the event of which these are the bytes or, if there is none, garbled, and where
---     ReadsAnswer bs r     r is what bs is read as: the answer of which these are the bytes, if there is one
+--     ReadsAnswer bs r      r is what bs is read as: the answer of which these are the bytes, if there is one
 --     Writes bs old new r   bs was written at the start of a part that held old and now holds new, and r says how many; or they have no place there,
 --                           and nothing changed
 --     event_of bs, answer_of bs      what is read

@@ -1,7 +1,7 @@
 -- What is promised of a keeper: each is a statement, a type whose proof is owed. What follows from these for any keeper is in Statements.antt.
 -- Assumes nothing.
---     RightAnswer l s g e x      x is a right answer to e, where the pieces are s and the ground is g
---     TurnedAway f m g e r       f turns e away for the reason r, and changes nothing
+--     RightAnswer l s g e x       x is a right answer to e, where the pieces are s and the ground is g
+--     TurnedAway f m g e r        f turns e away for the reason r, and changes nothing
 --     thin, all                   what the first stage can do, and what the whole keeper can
 use Rattle.std.specs.Prelude.{◌≡◌, ℕ, ◌<◌, Bool, true, false, cond, List, ◌∷◌, ◌++◌, length, take, Some, None, ◌≢◌, nat_lt}
 use Rattle.grounds.specs.declared.block.Block.{Block}

@@ -1,6 +1,6 @@
 -- What follows for a keeper whose answers are right, however it works: each is a statement, a type whose proof is owed. Assumes nothing.
---     LaidOut l bs         no two pieces share a byte, all are where a piece may be, and a page has pieces of one class or one large piece
---     ChangedBy l s e x a  the byte at a is one that an event e, answered by x, may change
+--     LaidOut l bs          no two pieces share a byte, all are where a piece may be, and a page has pieces of one class or one large piece
+--     ChangedBy l s e x a   the byte at a is one that an event e, answered by x, may change
 use Rattle.std.specs.Prelude.{◌≡◌, ℕ, ◌+◌, ◌*◌, ◌/◌, ◌%◌, ◌<◌, ◌≤◌, Bool, true, false, cond, ◌&&◌, ◌||◌, ◌⊎◌, List, [], ◌++◌, length, Some, None, ◌==◌, ◌≢◌, nat_eq, nat_le, nat_lt, slice_index}
 use Rattle.std.specs.List.{ContainsAt as Has}
 use Rattle.grounds.specs.declared.block.Block.{Block}

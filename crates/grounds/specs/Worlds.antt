@@ -2,7 +2,7 @@
 --     Program           what the contracts of the keeper's functions say
 --     World             a ground, the keeper's memory, and what has become of the pieces by what was answered
 --     Lived f l w       w is a world that f and anybody else can bring about, from an opening with the limits l on
---     LivedWell f l w  the same, where others keep to their own: they write only in pieces that are out, and no further than was asked for
+--     LivedWell f l w   the same, where others keep to their own: they write only in pieces that are out, and no further than was asked for
 --     GoodLimits can l limits with which an opening is taken, by a keeper that can do the events that `can` says
 use Rattle.std.specs.Prelude.{◌≡◌, ℕ, ◌+◌, ◌%◌, ◌<◌, ◌≤◌, Bool, true, ◌&&◌, List, [], ◌∷◌, length, replicate, ◌==◌, nat_le, nat_lt}
 use Rattle.std.specs.List.{AllByRecursion}

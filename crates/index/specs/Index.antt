@@ -12,8 +12,8 @@
 --     first_page i m k o          the lowest page that is in the set k or in the set o, as the two levels tell it
 --     Sound i groups m            what holds of memory that keeps sets of pages below 64 * groups: the two levels tell the same
 --     Inserted, Removed           what an insert and a removal change, and what they leave
---     in_either, LowestPage      whether a page is in one of two sets; what holds of the lowest that is
---     FirstOf                    the same of an answer: there is no such page, or it is the lowest
+--     in_either, LowestPage       whether a page is in one of two sets; what holds of the lowest that is
+--     FirstOf                     the same of an answer: there is no such page, or it is the lowest
 --     Cleared                     what holds of memory in which every word of both levels is 0
 use Rattle.std.specs.Prelude.{◌≡◌, ℕ, ◌+◌, ◌*◌, ◌/◌, ◌%◌, ◌^◌, ◌<◌, ◌≤◌, Bool, true, false, cond, not, ◌||◌, ltb, List, length, Some, None, Option, MatchOption, ◌==◌, ◌≢◌, bit_or, nat_lt, slice_index, slice_set}
 use Rattle.grounds.specs.Lists.{first}

@@ -6,7 +6,7 @@
 --     asked_at p u              where it stands how much was asked for the piece that is out and begins at the unit u of the page p
 --     queue_in, index_in x      where the queue lies, and where the two levels of the index do; groups n, how many groups of 64 pages n pages are
 --     Area, areas x             a part of memory; the parts of it, in their order; page_areas, those of the words of one page
---     InOrder k xs end         each of xs begins no sooner than the one before it ends, the first no sooner than k, and the last ends no later than `end`
+--     InOrder k xs end          each of xs begins no sooner than the one before it ends, the first no sooner than k, and the last ends no later than `end`
 use Rattle.std.specs.Prelude.{List, [], ◌∷◌, ℕ, ◌+◌, ◌*◌, ◌/◌, ◌≤◌}
 use Rattle.grounds.specs.Numbers.{page_words, rest_words, fixed_words, most_classes, mark_length}
 use Rattle.index.specs.declared.Index.{Index}

@@ -1,8 +1,8 @@
 -- Limits as numbers, and numbers as bytes. Assumes nothing: these are definitions.
 --     numbers_of x                   the limits x as numbers: pages, how many rest, the bytes of the mark, and then each class
---     NumbersRead bs old new r      r numbers were read from bs, and stand at the front of a table that held old and now holds new, and behind them it is
+--     NumbersRead bs old new r       r numbers were read from bs, and stand at the front of a table that held old and now holds new, and behind them it is
 --                             as it was; or bs is no whole number of them that has room there, and nothing changed
---     LimitsRead ns r               r is the limits of which ns are the numbers, if there are any
+--     LimitsRead ns r                r is the limits of which ns are the numbers, if there are any
 use Rattle.std.specs.Prelude.{◌≡◌, ℕ, ◌*◌, ◌≤◌, true, List, ◌∷◌, ◌++◌, length, take, drop, Option, MatchOption, ◌≢◌}
 use Rattle.std.specs.List.{flat_map}
 use Rattle.grounds.specs.Numbers.{mark_length}

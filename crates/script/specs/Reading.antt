@@ -4,7 +4,7 @@
 --     classes_words ns      an opening's classes, and the word that ends them
 --     opening_words o       the words of an opening, after `open`
 --     Below limit ns        each of the numbers ns is below the limit; SomeBelow limit ns: and there is one
---     FitsEvent e, FitsOpening o, FitsLine l     a script can have it: its numbers and bytes are in range, there is a class or a byte where one
+--     FitsEvent e, FitsOpening o, FitsLine l        a script can have it: its numbers and bytes are in range, there is a class or a byte where one
 --                           is wanted, and it is no event that stands for bytes that are none
 --     Blames e P            e says that memory was wanting, or else P holds
 --     Reads fits form ws r  r is what fits and has just the words ws, or says that nothing does

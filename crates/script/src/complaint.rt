@@ -1,4 +1,4 @@
-// What is said of a line that cannot be read, as `one_page.txt:3: expected the end of the line, in: look here`.
+// What is said of a line that cannot be read, as `one-page.txt:3: expected the end of the line, in: look here`.
 ghost use Rattle.script.specs.Texts.{complaint_text};
 ghost use Rattle.std.specs.Prelude.{Some};
 

@@ -8,9 +8,9 @@
 --     first_free m at         the lowest unit that is free, and `units` where all are taken
 --     lowest_free, full       the same as an answer; whether all are taken
 --     Rest                    what a change of a page's words leaves: the words outside, the length, and that words fit
---     AllTaken               that every unit is taken
---     LowestFree, FreeOf    what holds of the lowest unit that is free; the same of an answer
---     FirstOpen              what holds of the first of the four words that has a clear bit, and of 4 where none has one
+--     AllTaken                that every unit is taken
+--     LowestFree, FreeOf      what holds of the lowest unit that is free; the same of an answer
+--     FirstOpen               what holds of the first of the four words that has a clear bit, and of 4 where none has one
 use Rattle.std.specs.Prelude.{◌≡◌, ℕ, zero, suc, ◌+◌, ◌-◌, ◌/◌, ◌%◌, ◌^◌, ◌<◌, ◌≤◌, Bool, true, false, cond, not, List, length, Some, None, Option, MatchOption, ◌==◌, nat_lt, slice_index, slice_set}
 use Rattle.grounds.specs.Lists.{first}
 use Rattle.grounds.specs.Numbers.{page, grain}
