@@ -15,8 +15,8 @@ import sys
 TOKEN = re.compile(r"(?<![\w'\-◌])[^\W\d_][\w']*(?:-[\w']+)+(?![\w']|\.txt)")
 # Names that would fall together with a library's or another of this repository's.
 APART = {"bit-and": "bit_of_and", "bit-or": "bit_of_or"}
-# Types that port.py wrote in snake case.
-TYPES = {"Laid_out": "LaidOut"}
+# Names as port.py wrote them, and as they are.
+WRITTEN = {"Laid_out": "LaidOut", "get_d_part": "get_or_part"}
 
 
 def camel(name):
@@ -89,7 +89,7 @@ def main():
             print("fall together:", to, sorted(names))
 
     def turn(text):
-        for old, new in TYPES.items():
+        for old, new in WRITTEN.items():
             text = re.sub(rf"\b{old}\b", new, text)
         return TOKEN.sub(lambda m: respelt(m.group(0)) if m.group(0) in own else m.group(0), text)
 

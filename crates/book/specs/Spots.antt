@@ -3,7 +3,7 @@
 --     place_of_spot s       where that is on the ground
 --     spot_at a             the spot of a place, and is_spot x a, whether it is one
 --     kind_in, used_in, class_at, asked_in m ..      what memory tells of a page, or of a spot
---     has-piece m s         whether something is out there of which memory tells no more than its page has room for
+--     room_good m s         whether what is out there takes no more than its page has room for, and at least a mark
 --     spot_in x m k         the lowest spot of the class k: on the lowest page that has one, which may be a page that nothing touches
 --     has_spot x m c        whether there is one, and the page has room there
 --     Spotted, Pieced       that it is so, of a spot

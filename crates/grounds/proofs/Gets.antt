@@ -14,7 +14,7 @@ use Rattle.grounds.specs.Worlds.{GoodLimits, Program}
 use Rattle.grounds.specs.Promises.{Right}
 use Rattle.grounds.specs.Statements.{GotIsZero, Rests, HarmIsThere, RoomForMany, NothingLeaks}
 use Rattle.grounds.proofs.Lists.{every_take, every_parts, every_false}
-use Rattle.grounds.proofs.Parts.{length_part_le, get_d_part, part_part, length_over, part_over_out}
+use Rattle.grounds.proofs.Parts.{length_part_le, get_or_part, part_part, length_over, part_over_out}
 use Rattle.grounds.proofs.Classes.{class_has, class_fits, room_large, room_small}
 use Rattle.grounds.proofs.Apart.{may_small, may_large}
 use Rattle.grounds.proofs.Happened.{Happened, turns_away, gets, spoils, happened}
@@ -83,7 +83,7 @@ harm_is_there can f right l w n a good lived fits is =
     let bad = every_false (λ x. eqb x 0) there 0 unclean in
     let i = bad.0 in
     let near : i < room_for l n = omega (arith, bad.1, length_part_le a (room_for l n) g) in
-    (a + i, omega arith, omega arith, λ none. eqb-false (get_or there i 0) 0 bad.2 (get_d_part a (room_for l n) g i 0 near ∙ none))
+    (a + i, omega arith, omega arith, λ none. eqb-false (get_or there i 0) 0 bad.2 (get_or_part a (room_for l n) g i 0 near ∙ none))
 
 -- a get of a small size is turned away only for want of room
 pub small_turned : (can : ℕ → Bool) (l : Limits) → GoodLimits can l → can 0 ≡ true → (s : State) (n : ℕ) → 0 < n → 0 < class_of n l.classes →

@@ -20,7 +20,7 @@ use Rattle.grounds.specs.Worlds.{GoodLimits, Program, World, Lived, LivedWell, n
 use Rattle.grounds.specs.Promises.{Right}
 use Rattle.grounds.specs.Statements.{is_laid, LaidOut, NoTrouble}
 use Rattle.grounds.proofs.Lists.{every_has, every_from_has, any_true, any_false, same_refl, has_here, has_later, has_cases, has_parts, pair_of}
-use Rattle.grounds.proofs.Parts.{get_or_over_in, get_or_over_out, part_over_in, part_over_out, length_part_le, get_d_part, zero_from_reads}
+use Rattle.grounds.proofs.Parts.{get_or_over_in, get_or_over_out, part_over_in, part_over_out, length_part_le, get_or_part, zero_from_reads}
 use Rattle.grounds.proofs.Found.{found, find_at, find_has}
 use Rattle.grounds.proofs.Apart.{Apart, apart_tells, apart_swaps, Lies, lies}
 use Rattle.grounds.proofs.Happened.{Happened, turns_away, gets, spoils, gives, overruns, sizes, looks_overrun, looks_harmed, looks_whole, happened, one_out, one_rests}
@@ -136,7 +136,7 @@ module _ (can : ℕ → Bool) (l : Limits) (good : GoodLimits can l) (s : State)
       let short : i < r = omega (arith, length_part_le a r g) in
       let beyond : Beyond (a + i) s.out
       = λ b has. past i short b (apart_tells a r b (every_has (apart a r) (all_blocks s) b (may_free l n a (all_blocks s) may) (in_all b has))) in
-      get_d_part a r g i 0 short ∙ well.zeros (a + i) beyond)
+      get_or_part a r g i 0 short ∙ well.zeros (a + i) beyond)
     where
       past : (i : ℕ) → i < room_for l n → (b : Block) → Apart a (room_for l n) b → (a + i < b.at) ⊎ (b.at + b.room ≤ a + i)
       past i short b (inl before) = inl (omega arith)

@@ -12,8 +12,8 @@ length_part a n xs h = omega (arith, length-take n (drop a xs), length-drop a xs
 pub length_part_le : (a n : ℕ) (xs : List ℕ) → length (part a n xs) ≤ n
 length_part_le a n xs = omega (arith, length-take n (drop a xs))
 
-pub get_d_part : (a n : ℕ) (xs : List ℕ) (i d : ℕ) → i < n → get_or (part a n xs) i d ≡ get_or xs (a + i) d
-get_d_part a n xs i d h = get_or-take n (drop a xs) i d h ∙ get_or-drop a xs i d
+pub get_or_part : (a n : ℕ) (xs : List ℕ) (i d : ℕ) → i < n → get_or (part a n xs) i d ≡ get_or xs (a + i) d
+get_or_part a n xs i d h = get_or-take n (drop a xs) i d h ∙ get_or-drop a xs i d
 
 pub part_part : (a m n : ℕ) (xs : List ℕ) → m ≤ n → take m (part a n xs) ≡ part a m xs
 part_part a m n xs h = take-take m n (drop a xs) h
@@ -75,7 +75,7 @@ module _ (a : ℕ) (bs xs : List ℕ) (inside : a + length bs ≤ length xs) whe
       reads : (i : ℕ) → i < length (part b n (over a bs xs)) → get_or (part b n (over a bs xs)) i 0 ≡ get_or (part b n xs) i 0
       reads i h =
           let short : i < n = omega (arith, length_part_le b n (over a bs xs)) in
-          get_d_part b n (over a bs xs) i 0 short ∙ get_or_over_out (b + i) 0 (place i short away) ∙ sym (get_d_part b n xs i 0 short)
+          get_or_part b n (over a bs xs) i 0 short ∙ get_or_over_out (b + i) 0 (place i short away) ∙ sym (get_or_part b n xs i 0 short)
 
   -- the part that is written
   pub part_over_in : part a (length bs) (over a bs xs) ≡ bs

@@ -15,7 +15,7 @@
 --     in_either, LowestPage       whether a page is in one of two sets; what holds of the lowest that is
 --     FirstOf                     the same of an answer: there is no such page, or it is the lowest
 --     Cleared                     what holds of memory in which every word of both levels is 0
-use Rattle.std.specs.Prelude.{◌≡◌, ℕ, ◌+◌, ◌*◌, ◌/◌, ◌%◌, ◌^◌, ◌<◌, ◌≤◌, Bool, true, false, cond, not, ◌||◌, ltb, List, length, Some, None, Option, MatchOption, ◌==◌, ◌≢◌, bit_or, nat_lt, slice_index, slice_set}
+use Rattle.std.specs.Prelude.{◌≡◌, ℕ, ◌+◌, ◌*◌, ◌/◌, ◌%◌, ◌^◌, ◌<◌, ◌≤◌, Bool, true, false, cond, not, ◌||◌, List, length, Some, None, Option, MatchOption, ◌==◌, ◌≢◌, bit_or, nat_lt, slice_index, slice_set}
 use Rattle.grounds.specs.Lists.{first}
 use Rattle.grounds.specs.Numbers.{most_pages}
 use Rattle.bits.specs.Bit.{bit, with_bit, without_bit, lowest_bit}
@@ -74,7 +74,7 @@ highs i m k o h = bit_or (high_of i m k h) (high_of i m o h)
 
 -- the first high word that isn't 0, and 16 where all are
 unfoldable pub first_high : Index → List ℕ → ℕ → ℕ → ℕ
-first_high i m k o = first (λ h. ltb 0 (highs i m k o h)) high_words
+first_high i m k o = first (λ h. nat_lt 0 (highs i m k o h)) high_words
 
 -- the lowest page of the group g, and none where its low words are 0 although a high word says otherwise
 unfoldable pub first_in : Index → List ℕ → ℕ → ℕ → ℕ → Option ℕ

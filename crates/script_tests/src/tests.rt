@@ -12,7 +12,10 @@ use std::test::Fail;
 
 // A line is read and printed as another text.
 fn prints(rt: &impl Abort, heap: Global, text: &str, wanted: &str) -> Result<(), Fail> {
-    let line = read_line(heap, text)?;
+    let Ok(line) = read_line(heap, text) else {
+        assert!(rt; false, "{text}: it is not read");
+        return Ok(());
+    };
     let printed = format!(in heap; "{line}")?;
     assert!(rt; printed.as_str() == wanted, "{text}");
     Ok(())

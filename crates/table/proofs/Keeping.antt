@@ -1,5 +1,5 @@
 -- A keeper whose memory holds a table, and that answers by it, is right and takes the lowest place. What it has to show is one step, of memory that
--- holds a table: the lists of pieces and what has been lived so far don't come into it (kept-..). It may take the table to stand for some pieces (standing-..).
+-- holds a table: the lists of pieces and what has been lived so far don't come into it (kept_..). It may take the table to stand for some pieces (standing_..).
 --     Holds l t m        the keeper's own word for: the memory m holds the table t
 --     ByTable            that each step goes by the table
 use Rattle.std.proofs.Common.{◌≡◌, ℕ, Bool, true, List, length, Some, Option, sym, ap, ◌∙◌, subst}

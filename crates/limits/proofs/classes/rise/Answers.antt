@@ -7,12 +7,12 @@ use Rattle.limits.proofs.classes.rise.Goals.{then-class-last-via-then-class-last
 
 pub returns-then-class-last : goal.returns-then-class-last
 returns-then-class-last c =
-    let no-rise = rise_not c.args.classes.now c.loop-class.last c.loop-class.class-index c.loop-class-test.true in
+    let no_rise = rise_not c.args.classes.now c.loop-class.last c.loop-class.class-index c.loop-class-test.true in
     let falls : rising c.loop-class.last (drop c.loop-class.class-index c.args.classes.now) ≡ false
     = elim c.then-class-last.branch [
-      | then-class-last-via-then-class-last w ↦ no-rise (inl w.if-class-last.true)
-      | then-class-last-via-else-class-last+then-class-ne0 w ↦ no-rise (inr (inl w.if-class-ne0.true))
-      | then-class-last-via-else-class-last+else-class-ne0+then-class-gt-PAGE w ↦ no-rise (inr (inr w.if-class-gt-PAGE.true))
+      | then-class-last-via-then-class-last w ↦ no_rise (inl w.if-class-last.true)
+      | then-class-last-via-else-class-last+then-class-ne0 w ↦ no_rise (inr (inl w.if-class-ne0.true))
+      | then-class-last-via-else-class-last+else-class-ne0+then-class-gt-PAGE w ↦ no_rise (inr (inr w.if-class-gt-PAGE.true))
     ] in
     sym falls ∙ c.loop-class.invariant
 
