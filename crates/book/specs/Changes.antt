@@ -20,7 +20,7 @@ use Rattle.layout.specs.declared.field.Field.TheVariants.{Kind, Head, Used, Clas
 use Rattle.layout.specs.Layout.{templates_at, index_in, queue_in, field_at, taken_at, spoilt_at, asked_at}
 use Rattle.book.specs.declared.plan.Plan.{Plan}
 use Rattle.book.specs.declared.class.Class.{Class as ClassOf}
-use Rattle.book.specs.declared.spot.Spot.{Spot}
+use Rattle.layout.specs.declared.spot.Spot.{Spot}
 use Rattle.book.specs.Spots.{spot_at, is_spot, used_in, class_at}
 
 -- ---- a piece more

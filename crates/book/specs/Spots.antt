@@ -1,5 +1,5 @@
 -- Where pieces are, and where the lowest place of a class is, as memory tells it. Assumes nothing: these are definitions.
---     Spot                  a place where a piece may begin: the page, and the unit of the page (src/spot.rt)
+--     Spot                  a place where a piece may begin: the page, and the unit of the page (crate layout, src/spot.rt)
 --     place_of_spot s       where that is on the ground
 --     spot_at a             the spot of a place, and is_spot x a, whether it is one
 --     kind_in, used_in, class_at, asked_in m ..      what memory tells of a page, or of a spot
@@ -16,7 +16,7 @@ use Rattle.layout.specs.declared.field.Field.TheVariants.{Kind, Used, Class}
 use Rattle.layout.specs.Layout.{index_in, field_at, taken_at, asked_at}
 use Rattle.book.specs.declared.plan.Plan.{Plan}
 use Rattle.book.specs.declared.class.Class.{Class as ClassOf}
-use Rattle.book.specs.declared.spot.Spot.{Spot}
+use Rattle.layout.specs.declared.spot.Spot.{Spot}
 
 -- ---- places as pages and units
 

@@ -4,4 +4,3 @@
 
 pub mod class;
 pub mod plan;
-pub mod spot;

@@ -1,43 +1,13 @@
--- Numbers as bytes, the lowest first: what eight bytes hold, and that bytes and number give each other back.
-use Rattle.std.proofs.Common.{◌≡◌, ℕ, zero, suc, ◌+◌, ◌*◌, ◌/◌, ◌%◌, ◌^◌, ◌<◌, ◌≤◌, Bool, true, ◌&&◌, ltb, List, [], ◌∷◌, ◌++◌, length, get_or, drop, set, sym, refl, ap, not-suc-le-zero, pow-suc, arith, rules}
+-- Numbers as bytes, the lowest first: bytes are those of the number that they hold, and what is written of numbers one after the other.
+use Rattle.std.proofs.Common.{◌≡◌, ℕ, ◌+◌, ◌*◌, ◌/◌, ◌%◌, ◌^◌, ◌<◌, Bool, true, ◌&&◌, ltb, List, [], ◌∷◌, ◌++◌, length, get_or, take, drop, sym, refl, ap, pow-suc, append_assoc, ap₂, ◌∙◌, arith, length-append, length-take}
 use borrow.Rule.Slice.PartMut.{put_mid}
-use Rattle.std.proofs.lemmas.List.{at_drop_more, at_drop_all, take_at, drop_at, drop-drop}
+use Rattle.std.specs.List.{flat_map}
+use Rattle.std.proofs.lemmas.List.{take_at, drop_at, drop-drop, take_more, flat_map_more}
 use Rattle.std.proofs.lemmas.Bool.{and_parts, and_from, ltb-true, lt-ltb}
+use Rattle.std.proofs.lemmas.Bool.Decides.{nat_tests}
 use Rattle.grounds.specs.Numbers.{byte, word}
 use Rattle.grounds.specs.Lists.{bytes}
 use Rattle.codec.specs.Bytes.{number_of, number_length, low_first, number_bytes}
-
-pub number_of_eight : (bs : List ℕ) → length bs ≡ number_length →
-    number_of bs
-    ≡ get_or bs 0 0 + get_or bs 1 0 * 256 + get_or bs 2 0 * 65536 + get_or bs 3 0 * 16777216 + get_or bs 4 0 * 4294967296 + get_or bs 5 0 * 1099511627776
-    + get_or bs 6 0 * 281474976710656
-    + get_or bs 7 0 * 72057594037927936
-number_of_eight bs e =
-    let step : (i : ℕ) → i < 8 → number_of (drop i bs) ≡ get_or bs i 0 + 256 * number_of (drop (i + 1) bs)
-    = λ i h. at_drop_more number_of bs i 0 (omega arith) in
-    let end : number_of (drop 8 bs) ≡ 0 = at_drop_all number_of bs 8 (omega arith) in
-    omega (
-      arith,
-      step 0 (omega arith),
-      step 1 (omega arith),
-      step 2 (omega arith),
-      step 3 (omega arith),
-      step 4 (omega arith),
-      step 5 (omega arith),
-      step 6 (omega arith),
-      step 7 (omega arith),
-    )
-
--- a number below 256 ^ k is what its k bytes hold
-pub number_of_low_first : (k n : ℕ) → n < byte ^ k → number_of (low_first k n) ≡ n
-number_of_low_first zero n h = omega arith
-number_of_low_first (suc k) n h =
-    let shorter : n / byte < byte ^ k = omega (arith, pow-suc byte k) in
-    omega (arith, number_of_low_first k (n / byte) shorter)
-
-pub length_low_first : (k n : ℕ) → length (low_first k n) ≡ k
-length_low_first zero n = refl
-length_low_first (suc k) n = ap suc (length_low_first k (n / byte))
 
 -- bytes are the bytes of the number that they hold
 pub low_first_number_of : (bs : List ℕ) → bytes bs ≡ true → low_first (length bs) (number_of bs) ≡ bs
@@ -65,26 +35,44 @@ eight_spelt bs small e = (
 abbrev pub is_byte : ℕ → Bool
 is_byte b = ltb b byte
 
-pub fits_word : (n : ℕ) → (ltb n word && true) ≡ true → n < word
-fits_word n h = ltb-true n word (and_parts (ltb n word) true h).0
+-- ---- one number that is read
 
-pub word_fits : (n : ℕ) → n < word → (ltb n word && true) ≡ true
-word_fits n h = and_from (ltb n word) true (lt-ltb n word h) refl
+pub number_small : (n : ℕ) → n < word → (ltb n word && true) ≡ true
+number_small n h = and_from (ltb n word) true (lt-ltb n word h) refl
 
--- what `to_le_bytes` gives are the bytes of a number
-pub le_bytes : (n : ℕ) →
-    ◌≡◌
-    {A = List ℕ}
-    (n % 256
-    ∷ (n / 256 % 256
-    ∷ (n / 65536 % 256
-    ∷ (n / 16777216 % 256
-    ∷ (n / 4294967296 % 256 ∷ (n / 1099511627776 % 256 ∷ (n / 281474976710656 % 256 ∷ (n / 72057594037927936 % 256 ∷ []))))))))
-    (number_bytes n)
-le_bytes n = search rules
+-- one byte that is the number k alone
+pub alone_only : (k t : ℕ) (bs : List ℕ) → (t ≡ k) × (length bs ≡ 0) → t ∷ bs ≡ k ∷ []
+alone_only k t [] (tag, none) = ap (λ (j : ℕ). j ∷ []) tag
+alone_only k t (b ∷ bs) (tag, none) = absurd (omega arith)
 
--- one byte and two parts of eight, written over a list
-pub two_written : (xs a b : List ℕ) (t : ℕ) → length a ≡ 8 → length b ≡ 8 → 17 ≤ length xs →
-    put_mid 9 8 (put_mid 1 8 (set xs 0 t) a) b ≡ t ∷ (a ++ (b ++ drop 17 xs))
-two_written [] a b t la lb h = absurd (not-suc-le-zero h)
-two_written (x ∷ xs) a b t la lb h = rw (take_at a (drop 8 xs) 8 la, drop_at a (drop 8 xs) 8 la, drop-drop 8 8 xs)
+-- one byte that is the number k, and the eight bytes of a number
+pub number_only : (k t n : ℕ) (bs : List ℕ) → bytes (t ∷ bs) ≡ true → (t ≡ k) × ((length bs ≡ number_length) × (n ≡ number_of bs)) →
+    ((ltb n word && true) ≡ true) × (t ∷ bs ≡ k ∷ number_bytes n)
+number_only k t n bs small (tag, (long, is)) = grind (arith, nat_tests, eight_spelt, number_small)
+
+-- ---- numbers one after the other
+
+pub length_numbers : (ns : List ℕ) → length (flat_map number_bytes ns) ≡ number_length * length ns
+length_numbers [] = refl
+length_numbers (n ∷ ns) = omega (arith, length-append (number_bytes n) (flat_map number_bytes ns), length_numbers ns)
+
+-- after one byte and i numbers, one number more is written over what was there
+pub one_more_written : (t : ℕ) (ns old out bs : List ℕ) (i k : ℕ) → i < length ns → bs ≡ number_bytes (get_or ns i 0) → k ≡ number_length →
+    out ≡ (t ∷ flat_map number_bytes (take i ns)) ++ drop (1 + number_length * i) old →
+    put_mid (1 + number_length * i) k out bs ≡ (t ∷ flat_map number_bytes (take (i + 1) ns)) ++ drop (1 + number_length * (i + 1)) old
+one_more_written t ns old out bs i k near number eight so_far =
+    let at : ℕ = 1 + number_length * i in
+    let front : List ℕ = t ∷ flat_map number_bytes (take i ns) in
+    let long : length front ≡ at = omega (arith, length_numbers (take i ns), length-take i ns) in
+    let kept : take at out ≡ front = ap (take at) so_far ∙ take_at front (drop at old) at long in
+    let left : drop k (drop at out) ≡ drop (1 + number_length * (i + 1)) old
+    = ap₂ (λ (j : ℕ) (xs : List ℕ). drop j xs) eight (ap (drop at) so_far ∙ drop_at front (drop at old) at long)
+    ∙ drop-drop number_length at old
+    ∙ ap (λ (j : ℕ). drop j old) (omega arith) in
+    let more : front ++ bs ≡ t ∷ flat_map number_bytes (take (i + 1) ns)
+    = ap (λ (xs : List ℕ). front ++ xs) number
+    ∙ flat_map_more number_bytes (t ∷ []) (take i ns) (get_or ns i 0)
+    ∙ ap (λ (xs : List ℕ). t ∷ flat_map number_bytes xs) (sym (take_more ns i 0 near)) in
+    ap₂ (λ (xs ys : List ℕ). xs ++ (bs ++ ys)) kept left
+    ∙ sym (append_assoc front bs (drop (1 + number_length * (i + 1)) old))
+    ∙ ap (λ (xs : List ℕ). xs ++ drop (1 + number_length * (i + 1)) old) more

@@ -1,87 +1,43 @@
 // Answers, read from bytes and written as bytes.
 ghost use Rattle.std.specs.Prelude.{◌≡◌, ◌∷◌};
+ghost use Rattle.grounds.specs.Events.{answer_kind_number};
 ghost use Rattle.codec.specs.Bytes.{answer_bytes};
-ghost use Rattle.codec.specs.Codec.{answer_of, refusal_of, alone, with_one, with_two, ReadsAnswer, Writes};
+ghost use Rattle.codec.specs.Codec.{answer_of, ReadsAnswer, Writes};
 
-use crate::number::{NUMBER_LEN, read_number, write_alone, write_with_one, write_with_two};
-use grounds::answer::{
-    Answer, DONE, HARMED, NO_EVENT, NO_ROOM, NOT_OUT, NUMBER, OUT_OF_RANGE, OVERRUN, PLACE,
-    REFUSED, Refusal, WHOLE,
-};
+use crate::number::{NUMBER_LEN, read_number, write_numbers};
+use grounds::answer::{Answer, AnswerKind, Refusal};
 
 // The answer that has these bytes, if there is one.
 pub fn read_answer(bytes: &[u8]) -> Option<Answer>
     ensures value { result ≡ answer_of bytes.now }
     ensures reads { ReadsAnswer bytes.now result }
 {
-    if bytes.is_empty() {
-        return None;
-    }
-    tagged(bytes[0], &bytes[1..])
+    let (&tag, rest) = bytes.split_first()?;
+    tagged(tag, rest)
 }
 
 // The answer that begins with `tag`, the number that it goes by.
 fn tagged(tag: u8, rest: &[u8]) -> Option<Answer>
     ensures { result ≡ answer_of (tag ∷ rest.now) }
 {
-    if rest.is_empty() {
-        return read_alone(tag);
-    }
-    if let Some(n) = read_number(rest) {
-        return read_with_one(tag, n);
-    }
-    if rest.len() != 2 * NUMBER_LEN {
-        return None;
-    }
-    let first = read_number(&rest[0..NUMBER_LEN])?;
-    let second = read_number(&rest[NUMBER_LEN..])?;
-    read_with_two(tag, first, second)
-}
-
-fn read_alone(tag: u8) -> Option<Answer>
-    ensures { result ≡ alone tag }
-{
-    match tag {
-        DONE => Some(Answer::Done),
-        WHOLE => Some(Answer::Whole),
-        _ => None,
+    match AnswerKind::try_from(tag).ok()? {
+        AnswerKind::Refused => read_refused(rest),
+        AnswerKind::Done => rest.is_empty().then_some(Answer::Done),
+        AnswerKind::Place => read_number(rest).map(Answer::Place),
+        AnswerKind::Number => read_number(rest).map(Answer::Number),
+        AnswerKind::Overrun => read_number(rest).map(Answer::Overrun),
+        AnswerKind::Harmed => read_number(rest).map(Answer::Harmed),
+        AnswerKind::Whole => rest.is_empty().then_some(Answer::Whole),
     }
 }
 
-fn read_with_one(tag: u8, n: u64) -> Option<Answer>
-    ensures { result ≡ with_one tag n }
+// The answer that an event is turned away, if these bytes hold a refusal's number and a place.
+fn read_refused(bytes: &[u8]) -> Option<Answer>
+    ensures { result ≡ answer_of (answer_kind_number AnswerKind.Refused ∷ bytes.now) }
 {
-    match tag {
-        PLACE => Some(Answer::Place(n)),
-        NUMBER => Some(Answer::Number(n)),
-        OVERRUN => Some(Answer::Overrun(n)),
-        HARMED => Some(Answer::Harmed(n)),
-        _ => None,
-    }
-}
-
-fn read_with_two(tag: u8, m: u64, n: u64) -> Option<Answer>
-    ensures { result ≡ with_two tag m n }
-{
-    if tag != REFUSED {
-        return None;
-    }
-    let Some(refusal) = read_refusal(m) else {
-        return None;
-    };
-    Some(Answer::Refused(refusal, n))
-}
-
-fn read_refusal(n: u64) -> Option<Refusal>
-    ensures { result ≡ refusal_of n }
-{
-    match n {
-        NO_EVENT => Some(Refusal::NoEvent),
-        OUT_OF_RANGE => Some(Refusal::OutOfRange),
-        NOT_OUT => Some(Refusal::NotOut),
-        NO_ROOM => Some(Refusal::NoRoom),
-        _ => None,
-    }
+    let (number, place) = bytes.split_at_checked(NUMBER_LEN)?;
+    let refusal = Refusal::try_from(read_number(number)?).ok()?;
+    Some(Answer::Refused(refusal, read_number(place)?))
 }
 
 // Writes the answer at the start of `out`, and tells how many bytes it has. Where `out` is too short it writes nothing.
@@ -90,9 +46,9 @@ pub fn write_answer(answer: Answer, out: &mut [u8]) -> Option<usize>
 {
     let tag = answer.number();
     match answer {
-        Answer::Refused(refusal, at) => write_with_two(tag, refusal.number(), at, out),
-        Answer::Done | Answer::Whole => write_alone(tag, out),
+        Answer::Refused(refusal, at) => write_numbers(tag, &[refusal.number(), at], out),
+        Answer::Done | Answer::Whole => write_numbers(tag, &[], out),
         Answer::Place(n) | Answer::Number(n) | Answer::Overrun(n) | Answer::Harmed(n) =>
-            write_with_one(tag, n, out),
+            write_numbers(tag, &[n], out),
     }
 }

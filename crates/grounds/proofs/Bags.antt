@@ -1,7 +1,7 @@
 -- Properties of a bag: those that hold however a list is ordered, and of each part of it. What moves from list to list keeps them.
 --     Bag P      P goes on to hold as an element is moved to the front or from it, and as one is taken away
-use Rattle.std.proofs.Common.{◌≡◌, ℕ, Bool, true, List, [], ◌∷◌, ◌++◌, take, drop, sym, ap, ◌∙◌, subst, append_assoc, take-append-drop}
-use Rattle.std.proofs.lemmas.Bool.{and_parts, and_from}
+use Rattle.std.proofs.Common.{◌≡◌, ℕ, Bool, true, List, [], ◌∷◌, ◌++◌, take, drop, sym, ap, ◌∙◌, subst, append_assoc, arith, take-append-drop}
+use Rattle.std.proofs.lemmas.Bool.{and_parts}
 use Rattle.grounds.specs.Lists.{every, each_pair}
 use Rattle.grounds.proofs.Lists.{every_append, every_parts}
 
@@ -37,16 +37,10 @@ module _ {X : Type 0} (P : List X → Type 0) (bag : Bag P) where
 
 module _ {X : Type 0} (t : X → Bool) where
   every_front : (x : X) (xs ys : List X) → every t (xs ++ (x ∷ ys)) ≡ true → every t (x ∷ (xs ++ ys)) ≡ true
-  every_front x xs ys h =
-      let parts = every_parts t xs (x ∷ ys) h in
-      let tail = and_parts (t x) (every t ys) parts.1 in
-      and_from (t x) (every t (xs ++ ys)) tail.0 (every_append t xs ys parts.0 tail.1)
+  every_front x xs ys h = grind (arith, every_parts t xs (x ∷ ys), every_append t xs ys)
 
   every_back : (x : X) (xs ys : List X) → every t (x ∷ (xs ++ ys)) ≡ true → every t (xs ++ (x ∷ ys)) ≡ true
-  every_back x xs ys h =
-      let parts = and_parts (t x) (every t (xs ++ ys)) h in
-      let lists = every_parts t xs ys parts.1 in
-      every_append t xs (x ∷ ys) lists.0 (and_from (t x) (every t ys) parts.0 lists.1)
+  every_back x xs ys h = grind (arith, every_parts t xs ys, every_append t xs (x ∷ ys))
 
   pub every_bag : Bag (λ (xs : List X). every t xs ≡ true)
   every_bag = record { front = every_front; back = every_back; less = λ x xs h. (and_parts (t x) (every t xs) h).1 }
@@ -54,27 +48,11 @@ module _ {X : Type 0} (t : X → Bool) where
 module _ {X : Type 0} (t : X → X → Bool) (swaps : (x y : X) → t x y ≡ true → t y x ≡ true) where
   pair_front : (x : X) (xs ys : List X) → each_pair t (xs ++ (x ∷ ys)) ≡ true → each_pair t (x ∷ (xs ++ ys)) ≡ true
   pair_front x [] ys h = h
-  pair_front x (y ∷ xs) ys h =
-      let parts = and_parts (every (t y) (xs ++ (x ∷ ys))) (each_pair t (xs ++ (x ∷ ys))) h in
-      let here = and_parts (t y x) (every (t y) (xs ++ ys)) (every_front (t y) x xs ys parts.0) in
-      let rest = and_parts (every (t x) (xs ++ ys)) (each_pair t (xs ++ ys)) (pair_front x xs ys parts.1) in
-      and_from
-      (every (t x) (y ∷ (xs ++ ys)))
-      (each_pair t (y ∷ (xs ++ ys)))
-      (and_from (t x y) (every (t x) (xs ++ ys)) (swaps y x here.0) rest.0)
-      (and_from (every (t y) (xs ++ ys)) (each_pair t (xs ++ ys)) here.1 rest.1)
+  pair_front x (y ∷ xs) ys h = grind (arith, every_front (t y) x xs ys, pair_front x xs ys, swaps y x)
 
   pair_back : (x : X) (xs ys : List X) → each_pair t (x ∷ (xs ++ ys)) ≡ true → each_pair t (xs ++ (x ∷ ys)) ≡ true
   pair_back x [] ys h = h
-  pair_back x (y ∷ xs) ys h =
-      let parts = and_parts (every (t x) (y ∷ (xs ++ ys))) (each_pair t (y ∷ (xs ++ ys))) h in
-      let here = and_parts (t x y) (every (t x) (xs ++ ys)) parts.0 in
-      let rest = and_parts (every (t y) (xs ++ ys)) (each_pair t (xs ++ ys)) parts.1 in
-      and_from
-      (every (t y) (xs ++ (x ∷ ys)))
-      (each_pair t (xs ++ (x ∷ ys)))
-      (every_back (t y) x xs ys (and_from (t y x) (every (t y) (xs ++ ys)) (swaps x y here.0) rest.0))
-      (pair_back x xs ys (and_from (every (t x) (xs ++ ys)) (each_pair t (xs ++ ys)) here.1 rest.1))
+  pair_back x (y ∷ xs) ys h = grind (arith, every_back (t y) x xs ys, pair_back x xs ys, swaps x y)
 
   pub pair_bag : Bag (λ (xs : List X). each_pair t xs ≡ true)
   pair_bag = record { front = pair_front; back = pair_back; less = λ x xs h. (and_parts (every (t x) xs) (each_pair t xs) h).1 }

@@ -1,7 +1,7 @@
 -- Nothing else is written: each byte of the ground that an event changes lies in the mark of the piece just got, or in the piece just given back.
-use Rattle.std.proofs.Common.{◌≡◌, ℕ, ◌+◌, ◌<◌, ◌≤◌, Bool, ◌⊎◌, List, length, get_or, replicate, refl, inl, inr, arith}
+use Rattle.std.proofs.Common.{◌≡◌, ℕ, ◌+◌, ◌<◌, ◌≤◌, Bool, List, length, get_or, replicate, refl, inl, inr, arith}
 use lib.ListN.{length-replicate}
-use Rattle.std.proofs.lemmas.Bool.{cases_lt}
+use Rattle.std.proofs.lemmas.Bool.Decides.{nat_tests}
 use Rattle.grounds.specs.declared.event.Event.{Event}
 use Rattle.grounds.specs.declared.answer.Answer.{Answer}
 use Rattle.grounds.specs.Lists.{over}
@@ -17,15 +17,7 @@ use Rattle.grounds.proofs.Kept.{Kept, got_lies, found_lies, mark_inside, block_i
 
 -- what a write changed lies in what was written
 changed_inside : (a : ℕ) (bs g : List ℕ) (i : ℕ) → a + length bs ≤ length g → (get_or (over a bs g) i 0 ≡ get_or g i 0 → ⊥) → (a ≤ i) × (i < a + length bs)
-changed_inside a bs g i inside changed = (low (cases_lt i a), high (cases_lt i (a + length bs)))
-  where
-    low : (i < a) ⊎ (a ≤ i) → a ≤ i
-    low (inl before) = absurd (changed (get_or_over_out a bs g inside i 0 (inl before)))
-    low (inr h) = h
-
-    high : (i < a + length bs) ⊎ (a + length bs ≤ i) → i < a + length bs
-    high (inl h) = h
-    high (inr past) = absurd (changed (get_or_over_out a bs g inside i 0 (inr past)))
+changed_inside a bs g i inside changed = grind (arith, nat_tests, get_or_over_out)
 
 module _ (can : ℕ → Bool) (l : Limits) (good : GoodLimits can l) {s : State} {g : List ℕ} (kept : Kept l s g) (i : ℕ) where
   step_changes : {e : Event} {x : Answer} {h : List ℕ} {t : State} → Happened l s g e x h t → (get_or h i 0 ≡ get_or g i 0 → ⊥) → ChangedBy l s e x i

@@ -1,7 +1,7 @@
 -- How much a piece takes: what its class has and is, what a large piece takes, and that neither is much more than was asked for.
-use Rattle.std.proofs.Common.{◌≡◌, ℕ, ◌+◌, ◌%◌, ◌<◌, ◌≤◌, Bool, true, eqb, leb, List, [], ◌∷◌, refl, ⊎_elim, arith}
+use Rattle.std.proofs.Common.{◌≡◌, ℕ, ◌+◌, ◌%◌, ◌<◌, ◌≤◌, Bool, true, List, [], ◌∷◌, refl, ⊎_elim, arith}
 use Rattle.std.specs.List.{ContainsAt as Has, AllByRecursion}
-use Rattle.std.proofs.lemmas.Bool.{leb-true, leb-false, eqb-true, eqb-false, cases_lt, cond_both}
+use Rattle.std.proofs.lemmas.Bool.{cases_lt}
 use Rattle.std.proofs.lemmas.Bool.Decides.{nat_tests}
 use Rattle.std.proofs.ByRecursion.{All-weaker, all-has, has_get_or, has_append_right}
 use Rattle.grounds.specs.Numbers.{page, grain, mark_length}
@@ -16,14 +16,7 @@ module _ (n : ℕ) where
   class_cases :
       (c : ℕ) (cs : List ℕ) (P : ℕ → Type 0) → (n + mark_length ≤ c → P c) → (c < n + mark_length → P (class_of n cs)) → P (class_of n (c ∷ cs))
   unfolding class_of
-  class_cases c cs P has others =
-      cond_both
-      (leb (n + mark_length) c)
-      c
-      (class_of n cs)
-      P
-      (λ e. has (leb-true (n + mark_length) c e))
-      (λ e. others (leb-false (n + mark_length) c e))
+  class_cases c cs P has others = grind (arith, nat_tests)
 
   pub class_has : (cs : List ℕ) → 0 < class_of n cs → n + mark_length ≤ class_of n cs
   unfolding class_of
@@ -112,9 +105,7 @@ module _ (n : ℕ) where
 module _ (l : Limits) (n : ℕ) where
   pub room_cases :
       (P : ℕ → Type 0) → (class_of n l.classes ≡ 0 → P (large n)) → (0 < class_of n l.classes → P (class_of n l.classes)) → P (room_for l n)
-  room_cases P none some =
-      let c = class_of n l.classes in
-      cond_both (eqb c 0) (large n) c P (λ e. none (eqb-true c 0 e)) (λ e. some (omega (arith, eqb-false c 0 e)))
+  room_cases P none some = grind (arith, nat_tests)
 
   pub room_large : class_of n l.classes ≡ 0 → room_for l n ≡ large n
   room_large none = room_cases (λ r. r ≡ large n) (λ _. refl) (λ some. omega arith)

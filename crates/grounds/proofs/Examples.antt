@@ -1,14 +1,14 @@
 -- The worlds of specs/Examples.antt meet the premises of the statements. Where a piece is asked for, the answer follows from the rule of the lowest
 -- place, and nothing goes through all places of the ground.
-use Rattle.std.proofs.Common.{◌≡◌, ℕ, ◌*◌, ◌/◌, ◌<◌, true, false, cond, eqb, List, [], ◌∷◌, length, get_or, replicate, Some, None, Option, refl, ap, ◌∙◌, arith}
+use Rattle.std.proofs.Common.{◌≡◌, ℕ, ◌*◌, ◌/◌, ◌<◌, true, false, cond, eqb, List, [], ◌∷◌, length, get_or, replicate, Some, None, refl, ap, ◌∙◌, arith}
 use Rattle.std.proofs.lemmas.Bool.{cond-true, cond-false}
+use Rattle.std.proofs.lemmas.Bool.Decides.{nat_tests}
 use Rattle.grounds.specs.declared.event.Event.TheVariants.{Get, Give}
-use Rattle.grounds.specs.declared.answer.Refusal.{Refusal}
 use Rattle.grounds.specs.declared.answer.Answer.{Answer}
 use Rattle.grounds.specs.declared.answer.Answer.TheVariants.{Done, Place, Harmed}
 use Rattle.grounds.specs.Numbers.{page}
 use Rattle.grounds.specs.Lists.{every, over}
-use Rattle.grounds.specs.Blocks.{ground_size, class_of, room_for, may_be}
+use Rattle.grounds.specs.Blocks.{ground_size, class_of, may_be}
 use Rattle.grounds.specs.Grounds.{State, new_state, all_blocks, find, marked, turned, turned_by, good_fields, place_of, after, ground_after, clean_there}
 use Rattle.grounds.specs.Lowest.{lowest_place, lowest_answer, by_turned, the_answer}
 use Rattle.grounds.specs.Worlds.{GoodLimits, LivedWell, new, asks, writes, may_write}
@@ -23,18 +23,7 @@ use Rattle.grounds.proofs.Model.{model_right, model_lowest}
 use Rattle.grounds.proofs.OneAnswer.{leaves_right}
 
 good : GoodLimits all one_page
-good =
-    record {
-      some_pages = omega arith;
-      few_pages = omega arith;
-      some_classes = omega arith;
-      few_classes = omega arith;
-      classes_rise = refl;
-      few_rest = omega arith;
-      mark_long = refl;
-      mark_bytes = omega arith;
-      cans = λ k. refl;
-    }
+good = grind (arith, nat_tests)
 
 -- ---- the answer to a get, where there are no pieces
 
@@ -64,16 +53,14 @@ taken =
 
 get_told : (g : List ℕ) → the_answer one_page new_state g (Get 1000) ≡ cond (clean_there one_page g 1000 0) (Place 0) (Harmed 0)
 unfolding by_turned lowest_answer place_of
-get_told g =
-    ap (λ (o : Option Refusal). by_turned o 0 (lowest_answer one_page new_state g (Get 1000))) taken
-    ∙ ap (λ (a : ℕ). cond (clean_there one_page g 1000 a) (Place a) (Harmed a)) lowest_is_0
+get_told g = grind (arith, taken, lowest_is_0)
 
 zeros : List ℕ
 zeros = replicate (ground_size one_page) 0
 
 clean : clean_there one_page zeros 1000 0 ≡ true
 unfolding zeros
-clean = every_take (λ x. eqb x 0) (room_for one_page 1000) zeros (every_replicate (λ x. eqb x 0) (ground_size one_page) 0 refl)
+clean = grind (arith, every_take, zeros, every_replicate)
 
 -- ---- a piece is got
 
@@ -195,11 +182,11 @@ piece_found = ap (λ (s : State). find 0 s.out) got_state
 
 of_one_class : every (λ b. eqb b.room (class_of 1000 one_page.classes)) (all_blocks got.state) ≡ true
 unfolding one_piece class_of
-of_one_class = ap (λ (s : State). every (λ b. eqb b.room (class_of 1000 one_page.classes)) (all_blocks s)) got_state
+of_one_class = grind (arith, got_state)
 
 few : length (all_blocks got.state) < one_page.pages * (page / class_of 1000 one_page.classes)
 unfolding one_piece class_of
-few = let one : length (all_blocks got.state) ≡ 1 = ap (λ (s : State). length (all_blocks s)) got_state in omega arith
+few = grind (arith, got_state)
 
 may_give : turned one_page got.state (Give 0) ≡ None
 unfolding one_piece turned_by good_fields find

@@ -1,5 +1,5 @@
 -- What `find` finds, what is left `without` it, and that of more places than pieces one is at no piece's beginning.
-use Rattle.std.proofs.Common.{◌≡◌, ℕ, zero, suc, ◌<◌, Bool, true, false, cond, eqb, List, [], ◌∷◌, ◌++◌, length, is_some, Some, None, Option, sym, refl, ap, ◌∙◌, subst, ⊎_elim, arith}
+use Rattle.std.proofs.Common.{◌≡◌, ℕ, zero, suc, ◌<◌, Bool, true, false, cond, eqb, List, [], ◌∷◌, ◌++◌, length, is_some, Some, None, sym, refl, ap, ◌∙◌, subst, ⊎_elim, arith}
 use Rattle.std.specs.List.{ContainsAt as Has, AllByRecursion}
 use Rattle.std.proofs.ByRecursion.{has_append_right}
 use Rattle.std.proofs.lemmas.Bool.{eqb-true, ne_eqb, cond-true, cond-false, cases_Bool, false≢true}
@@ -50,11 +50,7 @@ pub find_at : (a : ℕ) (bs : List Block) (b : Block) → find a bs ≡ Some b �
 find_at a bs b h = (found a bs b h).begins
 
 pub some_found : (a : ℕ) (bs : List Block) → is_some (find a bs) ≡ true → (b : Block) × (find a bs ≡ Some b)
-some_found a bs h = go (find a bs) refl h
-  where
-    go : (o : Option Block) → find a bs ≡ o → is_some o ≡ true → (b : Block) × (find a bs ≡ Some b)
-    go None e h = absurd (false≢true h)
-    go (Some b) e h = (b, e)
+some_found a bs h = grind (arith, nat_tests)
 
 -- one more piece, that begins elsewhere
 pub find_past : (a : ℕ) (c : Block) (bs : List Block) → (c.at ≡ a → ⊥) → find a (c ∷ bs) ≡ find a bs

@@ -1,9 +1,9 @@
 -- What follows of a get: what is got is zeros, nothing that rests or is spoilt is given out, harm is there where it is told, and there is room.
-use Rattle.std.proofs.Common.{◌≡◌, ℕ, ◌+◌, ◌<◌, ◌≤◌, Bool, true, false, cond, ◌&&◌, eqb, ltb, leb, ◌⊎◌, List, ◌++◌, length, get_or, Some, None, sym, refl, ap, ◌∙◌, subst, inl, inr, arith}
-use Rattle.std.proofs.lemmas.Bool.{and_from, cases_lt, eqb-false, lt-ltb, le-leb, or_left, cond-true}
+use Rattle.std.proofs.Common.{◌≡◌, ℕ, ◌+◌, ◌<◌, Bool, true, false, eqb, List, ◌++◌, length, get_or, None, sym, refl, ap, ◌∙◌, inl, arith}
+use Rattle.std.proofs.lemmas.Bool.{and_from, eqb-false}
+use Rattle.std.proofs.lemmas.Bool.Decides.{nat_tests}
 use Rattle.grounds.specs.declared.block.Block.{Block}
 use Rattle.grounds.specs.declared.event.Event.TheVariants.{Get}
-use Rattle.grounds.specs.declared.answer.Refusal.TheVariants.{OutOfRange, NoRoom}
 use Rattle.grounds.specs.declared.answer.Answer.{Answer}
 use Rattle.grounds.specs.declared.answer.Answer.TheVariants.{Place, Harmed}
 use Rattle.grounds.specs.Lists.{part, over, all_zero}
@@ -15,8 +15,7 @@ use Rattle.grounds.specs.Promises.{Right}
 use Rattle.grounds.specs.Statements.{GotIsZero, Rests, HarmIsThere, RoomForMany, NothingLeaks}
 use Rattle.grounds.proofs.Lists.{every_take, every_parts, every_false}
 use Rattle.grounds.proofs.Parts.{length_part_le, get_or_part, part_part, length_over, part_over_out}
-use Rattle.grounds.proofs.Classes.{class_has, class_fits, room_large, room_small}
-use Rattle.grounds.proofs.Apart.{may_small, may_large}
+use Rattle.grounds.proofs.Classes.{class_has, class_fits}
 use Rattle.grounds.proofs.Happened.{Happened, turns_away, gets, spoils, happened}
 use Rattle.grounds.proofs.Kept.{got_lies, mark_inside, lived_kept}
 use Rattle.grounds.proofs.Room.{room_for_many}
@@ -24,13 +23,7 @@ use Rattle.grounds.proofs.Room.{room_for_many}
 -- ---- a get that is told a place, or harm
 
 pub may_free : (l : Limits) (n a : ℕ) (bs : List Block) → may_be l n a bs ≡ true → apart_all a (room_for l n) bs ≡ true
-may_free l n a bs may = go (cases_lt 0 (class_of n l.classes))
-  where
-    go : (0 < class_of n l.classes) ⊎ (class_of n l.classes ≤ 0) → apart_all a (room_for l n) bs ≡ true
-    go (inl some) = subst (λ (r : ℕ). apart_all a r bs ≡ true) (sym (room_small l n some)) (may_small l n a bs some may).free
-    go (inr few) =
-        let none : class_of n l.classes ≡ 0 = omega arith in
-        subst (λ (r : ℕ). apart_all a r bs ≡ true) (sym (room_large l n none)) (may_large l n a bs none may).free
+may_free l n a bs may = grind (arith, nat_tests)
 
 pub record Placed (l : Limits) (s : State) (g : List ℕ) (n a : ℕ) (h : List ℕ) : Type 0 where
   pub may : may_be l n a (all_blocks s) ≡ true
@@ -40,16 +33,14 @@ pub record Placed (l : Limits) (s : State) (g : List ℕ) (n a : ℕ) (h : List 
 pub placed : (l : Limits) (s : State) (g : List ℕ) (n a : ℕ) {x : Answer} {h : List ℕ} {t : State} → Happened l s g (Get n) x h t → x ≡ Place a →
     Placed l s g n a h
 placed l s g n a (turns_away r t) e = let z : ◌≡◌ {A = ℕ} 0 2 = ap answer_number e in absurd (omega arith)
-placed l s g n a (gets m k asked may clean) e =
-    let same : k ≡ a = cc in
-    subst (λ (b : ℕ). Placed l s g n b (over (mark_place (got_at l n k)) l.marks g)) same (record { may = may; clean = clean; written = refl })
-placed l s g n a (spoils m k asked may clean) e = let z : ◌≡◌ {A = ℕ} 5 2 = ap answer_number e in absurd (omega arith)
+placed l s g n a (gets m k asked may clean) e = grind (arith, nat_tests)
+placed l s g n a (spoils m k asked may clean) e = grind (arith, nat_tests)
 
 pub harmed : (l : Limits) (s : State) (g : List ℕ) (n a : ℕ) {x : Answer} {h : List ℕ} {t : State} → Happened l s g (Get n) x h t → x ≡ Harmed a →
     clean_there l g n a ≡ false
 harmed l s g n a (turns_away r t) e = let z : ◌≡◌ {A = ℕ} 0 5 = ap answer_number e in absurd (omega arith)
-harmed l s g n a (gets m k asked may clean) e = let z : ◌≡◌ {A = ℕ} 2 5 = ap answer_number e in absurd (omega arith)
-harmed l s g n a (spoils m k asked may clean) e = let same : k ≡ a = cc in subst (λ (b : ℕ). clean_there l g n b ≡ false) same clean
+harmed l s g n a (gets m k asked may clean) e = grind (arith, nat_tests)
+harmed l s g n a (spoils m k asked may clean) e = grind (arith, nat_tests)
 
 -- ---- the statements
 
@@ -89,13 +80,7 @@ harm_is_there can f right l w n a good lived fits is =
 pub small_turned : (can : ℕ → Bool) (l : Limits) → GoodLimits can l → can 0 ≡ true → (s : State) (n : ℕ) → 0 < n → 0 < class_of n l.classes →
     some_place l n (all_blocks s) (ground_size l) ≡ true → turned l s (Get n) ≡ None
 unfolding good_fields turned_by
-small_turned can l good able s n positive small some =
-    let fits : n ≤ ground_size l
-    = omega (arith, class_has n l.classes small, class_fits n 0 l.classes good.classes_rise small, good.some_pages) in
-    let range = and_from (ltb 0 n) (leb n (ground_size l)) (lt-ltb 0 n positive) (le-leb n (ground_size l) fits) in
-    let fields = and_from _ _ range (or_left (ltb 0 (class_of n l.classes)) (l.events_can 4) (lt-ltb 0 (class_of n l.classes) small)) in
-    cond-true _ (turned_by l s (Get n)) (Some OutOfRange) (and_from (l.events_can 0) _ (good.cans 0 ∙ able) fields)
-    ∙ cond-true (some_place l n (all_blocks s) (ground_size l)) None (Some NoRoom) some
+small_turned can l good able s n positive small some = grind (arith, nat_tests, class_has, class_fits)
 
 pub room_for_one_more : (can : ℕ → Bool) (f : Program) → Right can f → RoomForMany can f
 room_for_one_more can f right l w n good able lived positive small same fewer =
@@ -104,8 +89,4 @@ room_for_one_more can f right l w n good able lived positive small same fewer =
 
 pub nothing_leaks : (can : ℕ → Bool) (f : Program) → Right can f → NothingLeaks can f
 unfolding turned_by
-nothing_leaks can f right l w n good lived none =
-    ap
-    (λ (bs : List Block).
-    cond (l.events_can 0 && good_fields l (Get n)) (cond (some_place l n bs (ground_size l)) None (Some NoRoom)) (Some OutOfRange))
-    none
+nothing_leaks can f right l w n good lived none = grind (arith, nat_tests)

@@ -1,16 +1,15 @@
 -- What follows of what is out: it keeps what it has until it is given back, is out no more then, and its mark is looked at.
-use Rattle.std.proofs.Common.{◌≡◌, ℕ, ◌+◌, ◌≤◌, Bool, true, false, cond, ltb, ◌⊎◌, List, ◌++◌, length, replicate, is_some, Some, None, sym, refl, ap, ◌∙◌, subst, inl, inr, arith}
+use Rattle.std.proofs.Common.{◌≡◌, ℕ, ◌+◌, ◌≤◌, Bool, true, cond, ◌⊎◌, List, ◌++◌, length, replicate, is_some, Some, None, sym, refl, ap, ◌∙◌, subst, inl, inr, arith}
 use lib.ListN.{length-replicate}
 use Rattle.std.specs.List.{ContainsAt as Has}
 use Rattle.std.proofs.ByRecursion.{has_append_left, All-weaker, all_has_itself}
-use Rattle.std.proofs.lemmas.Bool.{and_from, lt-ltb, cond-true, cond-false, true≢false}
+use Rattle.std.proofs.lemmas.Bool.{cond-false, true≢false}
+use Rattle.std.proofs.lemmas.Bool.Decides.{nat_tests}
 use Rattle.grounds.specs.declared.block.Block.{Block}
 use Rattle.grounds.specs.declared.event.Event.{Event}
 use Rattle.grounds.specs.declared.event.Event.TheVariants.{Give}
-use Rattle.grounds.specs.declared.answer.Refusal.TheVariants.{OutOfRange, NotOut}
 use Rattle.grounds.specs.declared.answer.Answer.{Answer}
 use Rattle.grounds.specs.declared.answer.Answer.TheVariants.{Done, Overrun}
-use Rattle.grounds.specs.Numbers.{word}
 use Rattle.grounds.specs.Lists.{part}
 use Rattle.grounds.specs.Blocks.{Limits, room_for}
 use Rattle.grounds.specs.Events.{readable}
@@ -108,14 +107,12 @@ none_left l s a b out found =
     (all_has_itself left))
 
 pub out_fits : (can : ℕ → Bool) (l : Limits) → GoodLimits can l → (b : Block) → Lies l b → readable (Give b.at) ≡ true
-out_fits can l good b lie = and_from (ltb b.at word) true (lt-ltb b.at word (omega (arith, lie, good.few_pages))) refl
+out_fits can l good b lie = grind (arith, nat_tests)
 
 pub give_turned : (can : ℕ → Bool) (l : Limits) → GoodLimits can l → can 1 ≡ true → (s : State) (a : ℕ) (b : Block) → find a s.out ≡ Some b →
     turned l s (Give a) ≡ None
 unfolding good_fields turned_by
-give_turned can l good able s a b found =
-    cond-true _ (turned_by l s (Give a)) (Some OutOfRange) (and_from (l.events_can 1) true (good.cans 1 ∙ able) refl)
-    ∙ cond-true (is_some (find a s.out)) None (Some NotOut) (ap is_some found)
+give_turned can l good able s a b found = grind (arith, nat_tests)
 
 module _ (l : Limits) {s : State} {g : List ℕ} where
   step_back : {a : ℕ} {x : Answer} {h : List ℕ} {t : State} → Happened l s g (Give a) x h t → LaidOut l (all_blocks s) → turned l s (Give a) ≡ None →
@@ -127,12 +124,8 @@ module _ (l : Limits) {s : State} {g : List ℕ} where
   step_tells : {a : ℕ} {x : Answer} {h : List ℕ} {t : State} → Happened l s g (Give a) x h t → turned l s (Give a) ≡ None → (b : Block) →
       find a s.out ≡ Some b → x ≡ cond (marked l g b) Done (Overrun (mark_place b))
   step_tells (turns_away r t) taken b found = absurd (true≢false (ap is_some (sym t ∙ taken)))
-  step_tells (gives a c also m) taken b found =
-      let same : c ≡ b = cc in sym (cond-true (marked l g b) Done (Overrun (mark_place b)) (subst (λ (d : Block). marked l g d ≡ true) same m))
-  step_tells (overruns a c also m) taken b found =
-      let same : c ≡ b = cc in
-      ap (λ (d : Block). Overrun (mark_place d)) same
-      ∙ sym (cond-false (marked l g b) Done (Overrun (mark_place b)) (subst (λ (d : Block). marked l g d ≡ false) same m))
+  step_tells (gives a c also m) taken b found = grind (arith, nat_tests)
+  step_tells (overruns a c also m) taken b found = grind (arith, nat_tests)
 
 pub found_exactly : (can : ℕ → Bool) (f : Program) → Right can f → FoundExactly can f
 found_exactly can f right l w b good able lived found =

@@ -1,9 +1,9 @@
 -- What can have happened where an event was answered rightly: the cases of `RightStep`, each with what it says.
 --     Asked l n                 n bytes are a size that is in range
 --     Happened l s g e x h t    e was answered by x, the ground went from g to h, and the pieces from s to t
-use Rattle.std.proofs.Common.{◌≡◌, ℕ, ◌<◌, ◌≤◌, Bool, true, false, cond, ◌&&◌, ltb, leb, List, ◌∷◌, replicate, is_some, Some, None, Option, unwrap_or, sym, refl, ap, ◌∙◌, subst}
-use mathlib.Core.Path.{subst₃}
-use Rattle.std.proofs.lemmas.Bool.{and_parts, ltb-true, leb-true, true≢false}
+use Rattle.std.proofs.Common.{◌≡◌, ℕ, ◌<◌, ◌≤◌, Bool, true, false, cond, List, ◌∷◌, replicate, is_some, Some, None, Option, unwrap_or, sym, refl, ap, subst, arith}
+use Rattle.std.proofs.lemmas.Bool.{true≢false}
+use Rattle.std.proofs.lemmas.Bool.Decides.{nat_tests}
 use Rattle.grounds.specs.declared.block.Block.{Block}
 use Rattle.grounds.specs.declared.event.Event.{Event}
 use Rattle.grounds.specs.declared.event.Event.TheVariants.{Get, Give, Size, Look, Garbled}
@@ -57,11 +57,7 @@ none_cond false o r h = absurd (true≢false (ap is_some h))
 
 pub get_taken : (l : Limits) (s : State) (n : ℕ) → turned l s (Get n) ≡ None → Asked l n
 unfolding good_fields
-get_taken l s n h =
-    let fields = (and_parts (l.events_can 0) (good_fields l (Get n)) (none_cond _ (turned_by l s (Get n)) OutOfRange h).0).1 in
-    let range = (and_parts (ltb 0 n && leb n (ground_size l)) _ fields).0 in
-    let parts = and_parts (ltb 0 n) (leb n (ground_size l)) range in
-    record { some = ltb-true 0 n parts.0; fits = leb-true n (ground_size l) parts.1 }
+get_taken l s n h = grind (arith, nat_tests)
 
 pub get_room : (l : Limits) (s : State) (n : ℕ) → turned l s (Get n) ≡ None → some_place l n (all_blocks s) (ground_size l) ≡ true
 unfolding turned_by
@@ -99,28 +95,14 @@ ground_refused l s g (Garbled n) r a = refl
 module _ (l : Limits) (s : State) (g : List ℕ) where
   give_happened : (a : ℕ) (b : Block) → find a s.out ≡ Some b → marked l g (out_at s a) ≡ true →
       Happened l s g (Give a) Done (over a (replicate (out_at s a).room 0) g) (one_rests l s a (out_at s a))
-  give_happened a b f h =
-      let is : out_at s a ≡ b = out_found s a b f in
-      subst
-      (λ (c : Block). Happened l s g (Give a) Done (over a (replicate c.room 0) g) (one_rests l s a c))
-      (sym is)
-      (gives a b f (subst (λ (c : Block). marked l g c ≡ true) is h))
+  give_happened a b f h = grind (arith, out_found, gives)
 
   overrun_happened : (a x : ℕ) (b : Block) → find a s.out ≡ Some b → x ≡ mark_place (out_at s a) → marked l g (out_at s a) ≡ false →
       Happened l s g (Give a) (Overrun x) g (one_overrun s a (out_at s a))
-  overrun_happened a x b f e h =
-      let is : out_at s a ≡ b = out_found s a b f in
-      subst
-      (λ (y : ℕ). Happened l s g (Give a) (Overrun y) g (one_overrun s a (out_at s a)))
-      (sym e)
-      (subst
-      (λ (c : Block). Happened l s g (Give a) (Overrun (mark_place c)) g (one_overrun s a c))
-      (sym is)
-      (overruns a b f (subst (λ (c : Block). marked l g c ≡ false) is h)))
+  overrun_happened a x b f e h = grind (arith, out_found, overruns)
 
   size_happened : (a m : ℕ) (b : Block) → find a s.out ≡ Some b → m ≡ (out_at s a).size → Happened l s g (Size a) (Number m) g s
-  size_happened a m b f e =
-      subst (λ (k : ℕ). Happened l s g (Size a) (Number k) g s) (sym (e ∙ ap (λ (c : Block). c.size) (out_found s a b f))) (sizes a b f)
+  size_happened a m b f e = grind (arith, out_found, sizes)
 
   look_happened : (x : ℕ) (b : Block) → find b.at s.out ≡ Some b → x ≡ mark_place b → marked l g b ≡ false → Happened l s g Look (Overrun x) g s
   look_happened x b f e h = subst (λ (k : ℕ). Happened l s g Look (Overrun k) g s) (sym e) (looks_overrun b f h)
@@ -160,26 +142,4 @@ module _ (l : Limits) (s : State) (g : List ℕ) where
 -- each event that is asked of a keeper with right answers is one of the cases
 pub happened : (f : Program) (l : Limits) (w : World) (e : Event) → RightStep f l w e →
     Happened l w.state w.ground e (f.answers w.memory w.ground e) (asked f l w e).ground (asked f l w e).state
-happened f l w e step = go (turned l w.state e) refl
-  where
-    s : State
-    s = w.state
-
-    g : List ℕ
-    g = w.ground
-
-    x : Answer
-    x = f.answers w.memory g e
-
-    go : (o : Option Refusal) → turned l s e ≡ o → Happened l s g e x (f.leaves w.memory g e) (after l s e x)
-    go (Some r) t =
-        let away = step.away r t in
-        subst₃
-        (Happened l s g e)
-        (sym away.told)
-        (sym away.ground_kept)
-        (sym (ap (after l s e) away.told ∙ after_refused l s e r (place_of e)))
-        (turns_away r t)
-    go None t =
-        let taken = step.taken t in
-        subst (λ (h : List ℕ). Happened l s g e x h (after l s e x)) (sym taken.ground_right) (taken_happened l s g e x t taken.answer_right)
+happened f l w e step = grind (arith, after_refused, turns_away, taken_happened)

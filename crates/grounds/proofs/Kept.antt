@@ -17,7 +17,7 @@ use Rattle.grounds.proofs.Lists.{every_from_all, every_replicate}
 use Rattle.grounds.proofs.Parts.{length_over, bytes_over}
 use Rattle.grounds.proofs.Found.{find_at}
 use Rattle.grounds.proofs.Apart.{Lies}
-use Rattle.grounds.proofs.Happened.{Happened, turns_away, gets, spoils, gives, overruns, sizes, looks_overrun, looks_harmed, looks_whole, happened}
+use Rattle.grounds.proofs.Happened.{Happened, happened}
 use Rattle.grounds.proofs.Laid.{laid_bag, out_front, first_lies, none_laid, got_laid, step_laid}
 
 pub record Kept (l : Limits) (s : State) (g : List ℕ) : Type 0 where
@@ -49,34 +49,10 @@ module _ (can : ℕ → Bool) (l : Limits) (good : GoodLimits can l) where
 
   step_long : {s t : State} {g h : List ℕ} {e : Event} {x : Answer} → Happened l s g e x h t → LaidOut l (all_blocks s) → length g ≡ ground_size l →
       length h ≡ ground_size l
-  step_long {s} {g = g} what out long = go what
-    where
-      go : {t : State} {h : List ℕ} {e : Event} {x : Answer} → Happened l s g e x h t → length h ≡ ground_size l
-      go (turns_away r t) = long
-      go (gets n a asked may clean) =
-          length_over (mark_place (got_at l n a)) l.marks g (mark_inside (got_at l n a) g (got_lies n a (all_blocks s) may out) long) ∙ long
-      go (spoils n a asked may clean) = long
-      go (gives a b f m) =
-          length_over a (replicate b.room 0) g (block_inside a b g (find_at a s.out b f) (found_lies l s a b out f) long) ∙ long
-      go (overruns a b f m) = long
-      go (sizes a b f) = long
-      go (looks_overrun b f m) = long
-      go (looks_harmed a i w) = long
-      go (looks_whole w) = long
+  step_long {s} {g = g} what out long = grind (arith, length_over, mark_inside, got_lies, block_inside, find_at, found_lies)
 
   step_bytes : {s t : State} {g h : List ℕ} {e : Event} {x : Answer} → Happened l s g e x h t → bytes g ≡ true → bytes h ≡ true
-  step_bytes {s} {g = g} what small = go what
-    where
-      go : {t : State} {h : List ℕ} {e : Event} {x : Answer} → Happened l s g e x h t → bytes h ≡ true
-      go (turns_away r t) = small
-      go (gets n a asked may clean) = bytes_over (mark_place (got_at l n a)) l.marks g mark_bytes small
-      go (spoils n a asked may clean) = small
-      go (gives a b f m) = bytes_over a (replicate b.room 0) g (every_replicate (λ b. ltb b byte) b.room 0 refl) small
-      go (overruns a b f m) = small
-      go (sizes a b f) = small
-      go (looks_overrun b f m) = small
-      go (looks_harmed a i w) = small
-      go (looks_whole w) = small
+  step_bytes {s} {g = g} what small = grind (arith, bytes_over, mark_bytes, every_replicate)
 
   pub step_kept : {s t : State} {g h : List ℕ} {e : Event} {x : Answer} → Happened l s g e x h t → Kept l s g → Kept l t h
   step_kept what was =

@@ -1,9 +1,10 @@
 -- Nobody is given what another has: pieces that are laid out stay so, whatever is asked, where it is answered rightly.
-use Rattle.std.proofs.Common.{◌≡◌, ℕ, ◌+◌, ◌*◌, ◌/◌, ◌%◌, ◌<◌, ◌≤◌, Bool, true, false, ◌&&◌, ◌||◌, eqb, ltb, ◌⊎◌, List, [], ◌∷◌, ◌++◌, Some, sym, refl, ap, ◌∙◌, subst, inl, inr, append_assoc, add-zero, mul_assoc, arith}
+use Rattle.std.proofs.Common.{◌≡◌, ℕ, ◌+◌, ◌*◌, ◌/◌, ◌%◌, ◌<◌, Bool, true, false, ◌||◌, eqb, ltb, ◌⊎◌, List, [], ◌∷◌, ◌++◌, Some, sym, refl, ap, ◌∙◌, subst, inl, inr, append_assoc, add-zero, mul_assoc, arith}
 use native.Mathlib.Nat.{mul-mod_left}
 use Rattle.std.specs.List.{ContainsAt as Has}
 use Rattle.std.proofs.lemmas.Nat.{div-add-mod'}
-use Rattle.std.proofs.lemmas.Bool.{and_parts, and_from, or_cases, or_left, or_right, cases_Bool, cases_lt, lt-ltb, eqb-true, eq-eqb}
+use Rattle.std.proofs.lemmas.Bool.{and_parts, and_from, or_cases, or_left, or_right, cases_Bool, lt-ltb, eqb-true, eq-eqb}
+use Rattle.std.proofs.lemmas.Bool.Decides.{nat_tests}
 use Rattle.grounds.specs.declared.block.Block.{Block}
 use Rattle.grounds.specs.declared.event.Event.{Event}
 use Rattle.grounds.specs.declared.answer.Answer.{Answer}
@@ -25,25 +26,8 @@ none_laid l = record { no_shared_byte = refl; all_laid = refl; pages_of_one = λ
 
 -- ---- it is a property of the bag of pieces
 
-swap_tests : (x y r q s t : Bool) → (r ≡ true → q ≡ true) → ((x || y) || (r && (s && t))) ≡ true → ((y || x) || (q && (t && s))) ≡ true
-swap_tests true true r q s t turn h = refl
-swap_tests true false r q s t turn h = refl
-swap_tests false true r q s t turn h = refl
-swap_tests false false r q s t turn h =
-    let parts = and_parts r (s && t) h in
-    let small = and_parts s t parts.1 in
-    and_from q (t && s) (turn parts.0) (and_from t s small.1 small.0)
-
 share_swaps : (l : Limits) (p : ℕ) (b c : Block) → share_well l p b c ≡ true → share_well l p c b ≡ true
-share_swaps l p b c =
-    swap_tests
-    (apart (p * page) page b)
-    (apart (p * page) page c)
-    (eqb b.room c.room)
-    (eqb c.room b.room)
-    (ltb 0 (class_of b.size l.classes))
-    (ltb 0 (class_of c.size l.classes))
-    (λ same. eq-eqb c.room b.room (sym (eqb-true b.room c.room same)))
+share_swaps l p b c = grind (arith, nat_tests)
 
 pub laid_bag : (l : Limits) → Bag (LaidOut l)
 laid_bag l =
@@ -192,11 +176,7 @@ module _ (can : ℕ → Bool) (l : Limits) (good : GoodLimits can l) (n a : ℕ)
           go (inr before) = inr (omega (arith, takes, there, not_apart (p * page) page (got_at l n a) near))
 
   pub got_laid : may_be l n a bs ≡ true → LaidOut l bs → LaidOut l (got_at l n a ∷ bs)
-  got_laid may was = go (cases_lt 0 (class_of n l.classes))
-    where
-      go : (0 < class_of n l.classes) ⊎ (class_of n l.classes ≤ 0) → LaidOut l (got_at l n a ∷ bs)
-      go (inl some) = got_small some may was
-      go (inr few) = got_large (omega arith) may was
+  got_laid may was = grind (arith, got_small, got_large)
 
 -- ---- what it tells of the first piece and the others
 

@@ -1,8 +1,9 @@
 -- Lemmas on the tests of specs/Lists.antt: `every`, `any`, `each_pair` and `same`.
-use Rattle.std.proofs.Common.{◌≡◌, ℕ, zero, suc, ◌<◌, Bool, true, false, ◌&&◌, ◌||◌, eqb, ltb, ◌⊎◌, List, [], ◌∷◌, ◌++◌, length, get_or, take, drop, replicate, sym, refl, ◌∙◌, subst, inl, inr, ⊎_elim, arith}
+use Rattle.std.proofs.Common.{◌≡◌, ℕ, zero, suc, ◌<◌, Bool, true, false, ◌&&◌, ◌||◌, ltb, ◌⊎◌, List, [], ◌∷◌, ◌++◌, length, get_or, take, drop, replicate, sym, refl, ◌∙◌, subst, inl, inr, ⊎_elim, arith}
 use Rattle.std.specs.List.{ContainsAt as Has, AllByRecursion}
 use Rattle.std.proofs.ByRecursion.{all-has, All-get_or, All-from_get_or, All-weaker, all_has_itself}
-use Rattle.std.proofs.lemmas.Bool.{and_parts, and_from, or_parts, lt-ltb, eq-eqb, eqb-true, false≢true, true≢false, both_ways}
+use Rattle.std.proofs.lemmas.Bool.Decides.{nat_tests}
+use Rattle.std.proofs.lemmas.Bool.{and_parts, and_from, or_parts, lt-ltb, false≢true, true≢false}
 use Rattle.grounds.specs.Numbers.{byte}
 use Rattle.grounds.specs.Lists.{every, any, each_pair, same, bytes}
 
@@ -27,30 +28,25 @@ has_parts {X} (x ∷ xs) ys y has = go (has_cases x (xs ++ ys) y has) (has_parts
 module _ {X : Type 0} (t : X → Bool) where
   pub every_append : (xs ys : List X) → every t xs ≡ true → every t ys ≡ true → every t (xs ++ ys) ≡ true
   every_append [] ys h k = k
-  every_append (x ∷ xs) ys h k =
-      let parts = and_parts (t x) (every t xs) h in and_from (t x) (every t (xs ++ ys)) parts.0 (every_append xs ys parts.1 k)
+  every_append (x ∷ xs) ys h k = grind (arith, every_append xs ys)
 
   pub every_parts : (xs ys : List X) → every t (xs ++ ys) ≡ true → (every t xs ≡ true) × (every t ys ≡ true)
   every_parts [] ys h = (refl, h)
-  every_parts (x ∷ xs) ys h =
-      let parts = and_parts (t x) (every t (xs ++ ys)) h in
-      let more = every_parts xs ys parts.1 in
-      (and_from (t x) (every t xs) parts.0 more.0, more.1)
+  every_parts (x ∷ xs) ys h = grind (arith, every_parts xs ys)
 
   pub every_take : (n : ℕ) (xs : List X) → every t xs ≡ true → every t (take n xs) ≡ true
   every_take zero xs h = refl
   every_take (suc n) [] h = refl
-  every_take (suc n) (x ∷ xs) h =
-      let parts = and_parts (t x) (every t xs) h in and_from (t x) (every t (take n xs)) parts.0 (every_take n xs parts.1)
+  every_take (suc n) (x ∷ xs) h = grind (arith, every_take n xs)
 
   pub every_drop : (n : ℕ) (xs : List X) → every t xs ≡ true → every t (drop n xs) ≡ true
   every_drop zero xs h = h
   every_drop (suc n) [] h = refl
-  every_drop (suc n) (x ∷ xs) h = every_drop n xs (and_parts (t x) (every t xs) h).1
+  every_drop (suc n) (x ∷ xs) h = grind (arith, every_drop n xs)
 
   pub every_replicate : (n : ℕ) (x : X) → t x ≡ true → every t (replicate n x) ≡ true
   every_replicate zero x h = refl
-  every_replicate (suc n) x h = and_from (t x) (every t (replicate n x)) h (every_replicate n x h)
+  every_replicate (suc n) x h = grind (arith, every_replicate n x)
 
   pub all_from_every : (xs : List X) → every t xs ≡ true → AllByRecursion (λ x. t x ≡ true) xs
   all_from_every [] h = tt
@@ -101,11 +97,7 @@ module _ {X : Type 0} (t : X → Bool) where
       go false e h rest = let more = rest h in (more.0, has_later x xs more.0 more.1, more.2)
 
   pub any_from_has : (xs : List X) (x : X) → Has xs x → t x ≡ true → any t xs ≡ true
-  any_from_has xs x has h = go (any t xs) refl
-    where
-      go : (b : Bool) → any t xs ≡ b → any t xs ≡ true
-      go true e = e
-      go false e = absurd (both_ways (t x) (any_false xs x e has) h)
+  any_from_has xs x has h = grind (arith, λ (none : any t xs ≡ false). any_false xs x none has)
 
 -- two that stand in a list are the same, or pass a test that each pair passes, either way round
 pub pair_of : {X : Type 0} (t : X → X → Bool) → ((x y : X) → t x y ≡ true → t y x ≡ true) → (xs : List X) → each_pair t xs ≡ true → (x y : X) →
@@ -124,23 +116,18 @@ pair_of {X} t swaps (z ∷ zs) pairs x y hx hy =
 -- a weaker test
 pub every_weaker : {X : Type 0} (s t : X → Bool) → ((x : X) → s x ≡ true → t x ≡ true) → (xs : List X) → every s xs ≡ true → every t xs ≡ true
 every_weaker s t h [] e = refl
-every_weaker s t h (x ∷ xs) e =
-    let parts = and_parts (s x) (every s xs) e in and_from (t x) (every t xs) (h x parts.0) (every_weaker s t h xs parts.1)
+every_weaker s t h (x ∷ xs) e = grind (arith, h x, every_weaker s t h xs)
 
 -- the same lists
 pub same_true : (xs ys : List ℕ) → same xs ys ≡ true → xs ≡ ys
 same_true [] [] h = refl
 same_true [] (y ∷ ys) h = absurd (false≢true h)
 same_true (x ∷ xs) [] h = absurd (false≢true h)
-same_true (x ∷ xs) (y ∷ ys) h =
-    let parts = and_parts (eqb x y) (same xs ys) h in
-    let head = eqb-true x y parts.0 in
-    let tail = same_true xs ys parts.1 in
-    cc
+same_true (x ∷ xs) (y ∷ ys) h = grind (arith, nat_tests, same_true xs ys)
 
 pub same_refl : (xs : List ℕ) → same xs xs ≡ true
 same_refl [] = refl
-same_refl (x ∷ xs) = and_from (eqb x x) (same xs xs) (eq-eqb x x refl) (same_refl xs)
+same_refl (x ∷ xs) = grind (arith, nat_tests, same_refl xs)
 
 -- what a slice of bytes holds are bytes
 pub bytes_from_reads : (bs : List ℕ) → ((i : ℕ) → get_or bs i 0 < byte) → bytes bs ≡ true

@@ -1,13 +1,14 @@
 -- Where the pieces are laid out, the answer under the rule of the lowest place is a right answer.
-use Rattle.std.proofs.Common.{◌≡◌, ℕ, ◌<◌, ◌≤◌, Bool, true, false, cond, not, ◌&&◌, eqb, ltb, ◌⊎◌, List, [], ◌∷◌, ◌++◌, is_some, Some, None, sym, refl, ap, ◌∙◌, inl, inr, ⊎_elim, arith}
+use Rattle.std.proofs.Common.{◌≡◌, ℕ, ◌<◌, ◌≤◌, Bool, true, false, cond, not, ◌&&◌, eqb, ◌⊎◌, List, [], ◌∷◌, ◌++◌, is_some, Some, None, sym, refl, ap, ◌∙◌, inl, inr, ⊎_elim, arith}
 use Rattle.std.specs.List.{ContainsAt as Has}
 use Rattle.std.proofs.ByRecursion.{has_append_left}
-use Rattle.std.proofs.lemmas.Bool.{and_parts, and_from, cond_both, cond-true, cond-false, eqb-true, eq-eqb, ne_eqb, ltb-true, ltb-false, not-true, not_from_false, cases_Bool, cases_eq, true≢false}
+use Rattle.std.proofs.lemmas.Bool.{and_from, cond_both, cond-true, cond-false, eq-eqb, ne_eqb, not_from_false, cases_Bool, cases_eq, true≢false}
 use Rattle.std.proofs.lemmas.Bool.Decides.{Decides-below_and}
+use Rattle.std.proofs.lemmas.Bool.Decides.{nat_tests}
 use Rattle.grounds.specs.declared.block.Block.{Block}
 use Rattle.grounds.specs.declared.event.Event.{Event}
 use Rattle.grounds.specs.declared.event.Event.TheVariants.{Get, Give, Size, Look, Garbled}
-use Rattle.grounds.specs.declared.answer.Answer.TheVariants.{Done, Place, Overrun, Harmed, Whole}
+use Rattle.grounds.specs.declared.answer.Answer.TheVariants.{Done, Place, Overrun, Harmed}
 use Rattle.grounds.specs.Lists.{any}
 use Rattle.grounds.specs.Blocks.{Limits, ground_size, apart, may_be}
 use Rattle.grounds.specs.Grounds.{State, all_blocks, find, out_at, mark_place, marked, turned, byte_whole, bytes_whole, marks_whole, all_whole, clean_there}
@@ -67,18 +68,11 @@ module _ (l : Limits) (s : State) (out : LaidOut l (all_blocks s)) where
   module _ (g : List ℕ) where
     overrun_right : lowest_overrun l s g < ground_size l → RightAnswer l s g Look (Overrun (lowest_overrun l s g))
     unfolding RightAnswer
-    overrun_right low =
-        let m = lowest_overrun l s g in
-        let hit = first_hit (λ a. any (λ b. eqb (mark_place b) a && not (marked l g b)) s.out) (ground_size l) low in
-        let one = any_true (λ b. eqb (mark_place b) m && not (marked l g b)) s.out hit in
-        let b = one.0 in
-        let parts = and_parts (eqb (mark_place b) m) (not (marked l g b)) one.2 in
-        (b, out_finds b one.1, sym (eqb-true (mark_place b) m parts.0), not-true (marked l g b) parts.1)
+    overrun_right low = grind (arith, nat_tests, first_hit, any_true, out_finds)
 
     harm_right : lowest_harm l s g < ground_size l → RightAnswer l s g Look (Harmed (lowest_harm l s g))
     unfolding RightAnswer
-    harm_right low =
-        (low, not-true (byte_whole s g (lowest_harm l s g)) (first_hit (λ a. not (byte_whole s g a)) (ground_size l) low))
+    harm_right low = grind (arith, nat_tests, first_hit)
 
     whole_right : ground_size l ≤ lowest_overrun l s g → ground_size l ≤ lowest_harm l s g → all_whole l s g ≡ true
     unfolding bytes_whole
@@ -108,24 +102,7 @@ module _ (l : Limits) (s : State) (out : LaidOut l (all_blocks s)) where
 
     look_right : RightAnswer l s g Look (look_answer l s g)
     unfolding RightAnswer look_answer
-    look_right =
-        let m = lowest_overrun l s g in
-        let h = lowest_harm l s g in
-        let P = RightAnswer l s g Look in
-        cond_both
-        (ltb m (ground_size l))
-        (Overrun m)
-        (cond (ltb h (ground_size l)) (Harmed h) Whole)
-        P
-        (λ e. overrun_right (ltb-true m (ground_size l) e))
-        (λ e.
-        cond_both
-        (ltb h (ground_size l))
-        (Harmed h)
-        Whole
-        P
-        (λ k. harm_right (ltb-true h (ground_size l) k))
-        (λ k. whole_right (ltb-false m (ground_size l) e) (ltb-false h (ground_size l) k)))
+    look_right = grind (arith, overrun_right, harm_right, whole_right)
 
 pub lowest_right : (l : Limits) (s : State) (g : List ℕ) → LaidOut l (all_blocks s) → (e : Event) → turned l s e ≡ None →
     RightAnswer l s g e (lowest_answer l s g e)

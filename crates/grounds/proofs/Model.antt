@@ -1,17 +1,15 @@
 -- The model of specs/Model.antt: what it writes down it reads again, and its answers are right and follow the rule of the lowest place.
-use Rattle.std.proofs.Common.{◌≡◌, ℕ, Bool, List, [], ◌∷◌, length, Option, sym, refl, ap, ◌∙◌, subst}
+use Rattle.std.proofs.Common.{◌≡◌, ℕ, Bool, List, [], ◌∷◌, length, sym, refl, ap, ◌∙◌, arith}
 use mathlib.Core.Path.{fun_ext}
 use Rattle.std.proofs.lemmas.List.{take_at, drop_at}
 use Rattle.grounds.specs.declared.block.Block.{Block}
 use Rattle.grounds.specs.declared.event.Event.{Event}
-use Rattle.grounds.specs.declared.answer.Refusal.{Refusal}
 use Rattle.grounds.specs.declared.answer.Answer.{Answer}
-use Rattle.grounds.specs.declared.answer.Answer.TheVariants.{Refused}
 use Rattle.grounds.specs.Blocks.{Limits}
-use Rattle.grounds.specs.Grounds.{State, all_blocks, place_of, after, ground_after}
-use Rattle.grounds.specs.Lowest.{lowest_answer, by_turned, the_answer}
+use Rattle.grounds.specs.Grounds.{State, all_blocks, after, ground_after}
+use Rattle.grounds.specs.Lowest.{by_turned, the_answer}
 use Rattle.grounds.specs.Worlds.{GoodLimits, World, Lived, new, asks, writes}
-use Rattle.grounds.specs.Promises.{RightAnswer, RightStep, Right, Lowest}
+use Rattle.grounds.specs.Promises.{RightStep, Right, Lowest}
 use Rattle.grounds.specs.Statements.{LaidOut}
 use Rattle.grounds.specs.Model.{listed, in_front, behind, flat, blocks, noted, limits_in, state_in, model}
 use Rattle.grounds.proofs.Happened.{after_refused, ground_refused, happened}
@@ -103,31 +101,7 @@ module _ (can : ℕ → Bool) (l : Limits) (good : GoodLimits can l) (w : World)
 
   model_step : LaidOut l (all_blocks w.state) → (e : Event) → RightStep (model can) l w e
   unfolding by_turned
-  model_step out e =
-      record {
-        away = λ r t.
-            let told : x ≡ Refused r (place_of e) = answer_is e ∙ ap (λ (o : Option Refusal). by_turned o (place_of e) lowest) t in
-            record {
-              told = told;
-              memory_kept = still_noted e x ∙ ap (noted l) (ap (after l s e) told ∙ after_refused l s e r (place_of e)) ∙ sym is_noted;
-              ground_kept = ground_is e x ∙ ap (ground_after l s g e) told ∙ ground_refused l s g e r (place_of e);
-            };
-        taken = λ t.
-            let told : x ≡ lowest = answer_is e ∙ ap (λ (o : Option Refusal). by_turned o (place_of e) lowest) t in
-            record { answer_right = subst (RightAnswer l s g e) (sym told) (lowest_right l s g out e t); ground_right = ground_is e x };
-      }
-    where
-      s : State
-      s = w.state
-
-      g : List ℕ
-      g = w.ground
-
-      x : Answer
-      x = (model can).answers w.memory g e
-
-      lowest : Answer
-      lowest = lowest_answer l s g e
+  model_step out e = grind (arith, answer_is, still_noted, after_refused, is_noted, ground_is, ground_refused, lowest_right)
 
 -- every lived world is such a world, and its pieces are laid out
 module _ (can : ℕ → Bool) (l : Limits) (good : GoodLimits can l) where

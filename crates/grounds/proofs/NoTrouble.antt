@@ -6,8 +6,9 @@ use Rattle.std.proofs.Common.{◌≡◌, ℕ, zero, suc, ◌+◌, ◌-◌, ◌<�
 use lib.ListN.{length-replicate}
 use Rattle.std.specs.List.{ContainsAt as Has}
 use Rattle.std.proofs.ByRecursion.{has_append_left, has_append_right}
-use Rattle.std.proofs.lemmas.Bool.{and_parts, and_from, and_cases, or_left, or_right, leb-true, leb-false, ltb-false, eq-eqb, cases_Bool, cases_lt, both_ways}
+use Rattle.std.proofs.lemmas.Bool.{and_parts, and_from, or_left, or_right, leb-true, eq-eqb, cases_Bool, cases_lt, both_ways}
 use Rattle.std.proofs.lemmas.Bool.Decides.{Decides-below_and}
+use Rattle.std.proofs.lemmas.Bool.Decides.{nat_tests}
 use Rattle.grounds.specs.declared.block.Block.{Block}
 use Rattle.grounds.specs.declared.event.Event.{Event}
 use Rattle.grounds.specs.declared.answer.Answer.{Answer}
@@ -40,8 +41,7 @@ pub record Well (l : Limits) (s : State) (g : List ℕ) : Type 0 where
 -- ---- then all is whole
 
 not_inside : (x : ℕ) (b : Block) → (leb b.at x && ltb x (b.at + b.room)) ≡ false → (x < b.at) ⊎ (b.at + b.room ≤ x)
-not_inside x b h =
-    ⊎_elim (λ e. inl (leb-false b.at x e)) (λ e. inr (ltb-false x (b.at + b.room) e)) (and_cases (leb b.at x) (ltb x (b.at + b.room)) h)
+not_inside x b h = grind (arith, nat_tests)
 
 module _ (l : Limits) (s : State) (g : List ℕ) (well : Well l s g) where
   well_byte : (x : ℕ) → byte_whole s g x ≡ true

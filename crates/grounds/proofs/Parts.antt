@@ -1,10 +1,9 @@
 -- Lemmas on `part` and `over`: what is read from a part, and what a write leaves.
-use Rattle.std.proofs.Common.{◌≡◌, ℕ, ◌+◌, ◌-◌, ◌<◌, ◌≤◌, Bool, true, eqb, ltb, ◌⊎◌, List, ◌++◌, length, get_or, take, drop, sym, refl, ap, ◌∙◌, inl, inr, arith, length-append, length-drop, length-take}
+use Rattle.std.proofs.Common.{eqb-true, ◌≡◌, ℕ, ◌+◌, ◌-◌, ◌<◌, ◌≤◌, true, eqb, ◌⊎◌, List, ◌++◌, length, get_or, take, drop, sym, refl, ap, ◌∙◌, inl, inr, arith, length-append, length-drop, length-take}
 use Rattle.std.proofs.lemmas.List.{get_or-take, get_or-drop, get_or_append_left, get_or-append_right, take_at, drop_at, ext_get_or, take-take}
-use Rattle.std.proofs.lemmas.Bool.{eqb-true, eq-eqb}
-use Rattle.grounds.specs.Numbers.{byte}
+use Rattle.std.proofs.lemmas.Bool.{eq-eqb}
 use Rattle.grounds.specs.Lists.{part, over, all_zero, bytes}
-use Rattle.grounds.proofs.Lists.{every_append, every_take, every_drop, every_get_or, every_from_get_or}
+use Rattle.grounds.proofs.Lists.{every_get_or, every_append, every_take, every_drop, every_from_get_or}
 
 pub length_part : (a n : ℕ) (xs : List ℕ) → a + n ≤ length xs → length (part a n xs) ≡ n
 length_part a n xs h = omega (arith, length-take n (drop a xs), length-drop a xs)
@@ -83,9 +82,7 @@ module _ (a : ℕ) (bs xs : List ℕ) (inside : a + length bs ≤ length xs) whe
       ap (take (length bs)) (drop_at (take a xs) (bs ++ drop (a + length bs) xs) a front_length) ∙ take_at bs (drop (a + length bs) xs) (length bs) refl
 
 pub bytes_over : (a : ℕ) (bs xs : List ℕ) → bytes bs ≡ true → bytes xs ≡ true → bytes (over a bs xs) ≡ true
-bytes_over a bs xs h k =
-    let t : ℕ → Bool = λ b. ltb b byte in
-    every_append t (take a xs) (bs ++ drop (a + length bs) xs) (every_take t a xs k) (every_append t bs (drop (a + length bs) xs) h (every_drop t (a + length bs) xs k))
+bytes_over a bs xs h k = grind (arith, every_append, every_take, every_drop)
 
 -- ---- zeros
 

@@ -1,8 +1,8 @@
 -- Where a small piece may be, and that there is a place for one more while all pieces are of one class and fewer than the pages have places for.
-use Rattle.std.proofs.Common.{◌≡◌, ℕ, ◌+◌, ◌*◌, ◌/◌, ◌%◌, ◌<◌, ◌≤◌, Bool, true, eqb, List, [], ◌∷◌, length, Decides, refl, ⊎_elim, mul-le-mul_right, mod-lt, mul-le-mul_left, div-add-mod', div-mul-le_self, mul-div_cancel, arith}
-use native.Mathlib.Nat.{lt_of_mul-lt-mul_left, div-add-mod, mul-mod_left}
+use Rattle.std.proofs.Common.{◌≡◌, ℕ, ◌+◌, ◌*◌, ◌/◌, ◌%◌, ◌<◌, ◌≤◌, Bool, true, eqb, List, [], ◌∷◌, length, Decides, refl, mul-le-mul_right, mod-lt, div-add-mod', div-mul-le_self, mul-div_cancel, arith}
+use native.Mathlib.Nat.{mul-mod_left}
 use Rattle.std.specs.List.{AllByRecursion}
-use Rattle.std.proofs.lemmas.Bool.{eqb-true, and_parts, cases_lt}
+use Rattle.std.proofs.lemmas.Bool.{eqb-true, and_parts}
 use Rattle.std.proofs.lemmas.Nat.{div_below, le-div}
 use Rattle.std.proofs.lemmas.Bool.Decides.{nat_tests, Decides-below_or}
 use Rattle.grounds.specs.declared.block.Block.{Block}
@@ -35,17 +35,10 @@ pub laid_sits : (l : Limits) (b : Block) → 0 < b.room → b.room ≤ page → 
 laid_sits l b some fits laid = grind (arith, nat_tests)
 
 multiples_apart : (c x y : ℕ) → x % c ≡ 0 → y % c ≡ 0 → x < y → x + c ≤ y
-multiples_apart c x y p q less =
-    let x_is = div-add-mod x c in
-    let y_is = div-add-mod y c in
-    omega (arith, mul-le-mul_left c (lt_of_mul-lt-mul_left c {m = x / c} {n = y / c} (omega arith)))
+multiples_apart c x y p q less = grind (arith, nat_tests)
 
 pub sits_apart : (c a b : ℕ) → Sits c a → Sits c b → a < b → a + c ≤ b
-sits_apart c a b p q less =
-    ⊎_elim
-    (λ h. omega (arith, multiples_apart c (a % page) (b % page) p.0 q.0 h))
-    (λ h. omega arith)
-    (cases_lt (a % page) (b % page))
+sits_apart c a b p q less = grind (arith, multiples_apart)
 
 -- ---- the places for pieces that take c
 
@@ -83,11 +76,7 @@ module _ (c : ℕ) (some : 0 < c) (fits : c ≤ page) where
 
   module _ (l : Limits) (a : ℕ) (sits : Sits c a) where
     apart_from : (b : Block) → b.room ≡ c → is_laid l b ≡ true → (a ≡ b.at → ⊥) → apart a c b ≡ true
-    apart_from b same laid other =
-        let at : Sits c b.at = rw same at (laid_sits l b (omega arith) (omega arith) laid) in
-        let before = sits_apart c a b.at sits at in
-        let after = sits_apart c b.at a at sits in
-        grind (arith, nat_tests)
+    apart_from b same laid other = grind (arith, nat_tests, laid_sits, sits_apart)
 
     alike_and_apart :
         (bs : List Block) → every (λ b. eqb b.room c) bs ≡ true → every (is_laid l) bs ≡ true → AllByRecursion (λ b. a ≡ b.at → ⊥) bs →

@@ -1,42 +1,44 @@
 // What the keeper answers.
-ghost use Rattle.grounds.specs.Events.{answer_number, refusal_number};
+ghost use Rattle.grounds.specs.Events.{answer_kind, answer_number, answer_kind_number, refusal_number, GoesBy};
 ghost use Rattle.std.specs.Prelude.{◌≡◌};
 
-// The number that each answer goes by.
-pub const REFUSED: u8 = 0;
-
-pub const DONE: u8 = 1;
-
-pub const PLACE: u8 = 2;
-
-pub const NUMBER: u8 = 3;
-
-pub const OVERRUN: u8 = 4;
-
-pub const HARMED: u8 = 5;
-
-pub const WHOLE: u8 = 6;
-
-// The number that each refusal goes by.
-pub const NO_EVENT: u64 = 1;
-
-pub const OUT_OF_RANGE: u64 = 2;
-
-pub const NOT_OUT: u64 = 3;
-
-pub const NO_ROOM: u64 = 4;
+use crate::unknown_number::UnknownNumber;
 
 // Why an event is turned away; the first that holds is told.
 #[derive(Clone, Copy, Debug, PartialEq, Eq)]
 pub enum Refusal {
     // bytes that are no event
-    NoEvent,
+    NoEvent = 1,
     // nothing, or more than the ground; or something that the keeper cannot do
-    OutOfRange,
+    OutOfRange = 2,
     // nothing that is out begins there
-    NotOut,
+    NotOut = 3,
     // there is no place where such a piece may be
-    NoRoom,
+    NoRoom = 4,
+}
+
+impl Refusal {
+    pub fn number(self) -> u64
+        ensures { result ≡ refusal_number self }
+    {
+        self as u64
+    }
+}
+
+impl TryFrom<u64> for Refusal {
+    type Error = UnknownNumber;
+
+    ghost try_from_gives = { GoesBy refusal_number };
+
+    fn try_from(number: u64) -> Result<Self, UnknownNumber> {
+        match number {
+            n if n == Refusal::NoEvent as u64 => Ok(Refusal::NoEvent),
+            n if n == Refusal::OutOfRange as u64 => Ok(Refusal::OutOfRange),
+            n if n == Refusal::NotOut as u64 => Ok(Refusal::NotOut),
+            n if n == Refusal::NoRoom as u64 => Ok(Refusal::NoRoom),
+            _ => Err(UnknownNumber),
+        }
+    }
 }
 
 #[derive(Clone, Copy, Debug, PartialEq, Eq)]
@@ -56,31 +58,56 @@ pub enum Answer {
     Whole,
 }
 
-impl Refusal {
-    pub fn number(self) -> u64
-        ensures { result ≡ refusal_number self }
+impl Answer {
+    pub fn kind(self) -> AnswerKind
+        ensures value { result ≡ answer_kind self }
+        ensures number { answer_kind_number result ≡ answer_number self }
     {
         match self {
-            Refusal::NoEvent => NO_EVENT,
-            Refusal::OutOfRange => OUT_OF_RANGE,
-            Refusal::NotOut => NOT_OUT,
-            Refusal::NoRoom => NO_ROOM,
+            Answer::Refused(_, _) => AnswerKind::Refused,
+            Answer::Done => AnswerKind::Done,
+            Answer::Place(_) => AnswerKind::Place,
+            Answer::Number(_) => AnswerKind::Number,
+            Answer::Overrun(_) => AnswerKind::Overrun,
+            Answer::Harmed(_) => AnswerKind::Harmed,
+            Answer::Whole => AnswerKind::Whole,
         }
     }
-}
 
-impl Answer {
     pub fn number(self) -> u8
         ensures { result ≡ answer_number self }
     {
-        match self {
-            Answer::Refused(_, _) => REFUSED,
-            Answer::Done => DONE,
-            Answer::Place(_) => PLACE,
-            Answer::Number(_) => NUMBER,
-            Answer::Overrun(_) => OVERRUN,
-            Answer::Harmed(_) => HARMED,
-            Answer::Whole => WHOLE,
+        self.kind() as u8
+    }
+}
+
+// The kind of an answer, with the number that it goes by.
+#[derive(Clone, Copy, Debug, PartialEq, Eq)]
+pub enum AnswerKind {
+    Refused = 0,
+    Done = 1,
+    Place = 2,
+    Number = 3,
+    Overrun = 4,
+    Harmed = 5,
+    Whole = 6,
+}
+
+impl TryFrom<u8> for AnswerKind {
+    type Error = UnknownNumber;
+
+    ghost try_from_gives = { GoesBy answer_kind_number };
+
+    fn try_from(number: u8) -> Result<Self, UnknownNumber> {
+        match number {
+            n if n == AnswerKind::Refused as u8 => Ok(AnswerKind::Refused),
+            n if n == AnswerKind::Done as u8 => Ok(AnswerKind::Done),
+            n if n == AnswerKind::Place as u8 => Ok(AnswerKind::Place),
+            n if n == AnswerKind::Number as u8 => Ok(AnswerKind::Number),
+            n if n == AnswerKind::Overrun as u8 => Ok(AnswerKind::Overrun),
+            n if n == AnswerKind::Harmed as u8 => Ok(AnswerKind::Harmed),
+            n if n == AnswerKind::Whole as u8 => Ok(AnswerKind::Whole),
+            _ => Err(UnknownNumber),
         }
     }
 }

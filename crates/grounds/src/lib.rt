@@ -5,4 +5,6 @@ pub mod answer;
 pub mod block;
 pub mod event;
 pub mod numbers;
+pub mod page;
 pub mod theorems;
+pub mod unknown_number;

@@ -1,5 +1,5 @@
 // The numbers of a ground and of its keeper's memory, as the code has them. The statements have the same in specs/Numbers.antt, and contracts tie
-// the two.
+// the two, so that what is promised stays as the code changes.
 
 // The bytes of a page.
 pub const PAGE: u64 = 4096;

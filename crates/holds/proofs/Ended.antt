@@ -13,7 +13,7 @@ use Rattle.grounds.proofs.Lists.{every_has}
 use Rattle.grounds.proofs.Apart.{lies}
 use Rattle.table.specs.Table.{Table, sized, marked_spoilt, queued, released, rested}
 use Rattle.table.specs.Stands.{Stands}
-use Rattle.book.specs.declared.spot.Spot.{Spot}
+use Rattle.layout.specs.declared.spot.Spot.{Spot}
 use Rattle.book.specs.Plan.{plan_of}
 use Rattle.book.specs.Spots.{place_of_spot, spot_at}
 use Rattle.book.specs.Changes.{sized_in, spoilt_in, rested_in}

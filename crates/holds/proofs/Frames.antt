@@ -1,7 +1,6 @@
 -- What stays of a table that memory holds, where only some words have changed: those of one page, of the index, or of the queue.
-use Rattle.std.proofs.Common.{◌≡◌, ℕ, ◌+◌, ◌*◌, ◌/◌, ◌^◌, ◌<◌, ◌≤◌, Bool, true, false, cond, not, ◌&&◌, eqb, ◌⊎◌, List, length, get_or, set, sym, refl, ap, ◌∙◌, subst, inl, inr, arith}
+use Rattle.std.proofs.Common.{◌≡◌, ℕ, ◌+◌, ◌*◌, ◌/◌, ◌^◌, ◌<◌, ◌≤◌, Bool, true, false, cond, not, ◌&&◌, eqb, ◌⊎◌, List, length, get_or, sym, refl, ap, ◌∙◌, subst, inl, inr, arith}
 use Rattle.std.specs.List.{ContainsAt as Has}
-use Rattle.std.proofs.lemmas.List.{get_or-set_same, get_or-set_other, set_past}
 use Rattle.std.proofs.lemmas.Bool.{cases_eq, cases_lt, eq-eqb, ne_eqb}
 use Rattle.grounds.specs.Numbers.{mark_length, most_classes}
 use Rattle.grounds.specs.Blocks.{Limits}
@@ -21,16 +20,6 @@ use Rattle.layout.specs.declared.field.Field.TheVariants.{Kind, Head, Used, Clas
 use Rattle.layout.specs.Layout.{header, high_at, queue_at, pages_at, rests_at, count_at, marks_at, classes_at, templates_at, lookup_at, page_stride, page_at, groups, index_in, queue_in, field_at, taken_at, spoilt_at, asked_at}
 use Rattle.table.specs.Table.{Table, queued, unit_place}
 use Rattle.holds.specs.Holds.{layout_for, Header, Page, Parts, Sets}
-
--- ---- one word written
-
-pub set_fits : (m : List ℕ) (a w : ℕ) → w < 2 ^ 64 → ((b : ℕ) → get_or m b 0 < 2 ^ 64) → (b : ℕ) → get_or (set m a w) b 0 < 2 ^ 64
-set_fits m a w small fits b = go (cases_eq b a) (cases_lt a (length m))
-  where
-    go : (b ≡ a) ⊎ (b ≡ a → ⊥) → (a < length m) ⊎ (length m ≤ a) → get_or (set m a w) b 0 < 2 ^ 64
-    go (inl e) (inl near) = rw e (rw (get_or-set_same m a w 0 near) small)
-    go (inl e) (inr past) = rw (set_past m a w past) (fits b)
-    go (inr other) place = rw (get_or-set_other m a b w 0 other) (fits b)
 
 -- ---- the header, of which the queue's two words are no part
 

@@ -16,7 +16,7 @@ use Rattle.layout.specs.declared.field.Field.TheVariants.{Kind, Head, Used, Clas
 use Rattle.layout.specs.Layout.{page_stride, page_at, groups, index_in, field_at, taken_at, spoilt_at, asked_at}
 use Rattle.table.specs.Table.{Table, touches, known, released, one_if, fits, unit_place, free_unit}
 use Rattle.book.specs.declared.plan.Plan.{Plan}
-use Rattle.book.specs.declared.spot.Spot.{Spot}
+use Rattle.layout.specs.declared.spot.Spot.{Spot}
 use Rattle.book.specs.Spots.{place_of_spot, used_in, class_at}
 use Rattle.book.specs.Changes.{emptied, unshelved, freed}
 use Rattle.holds.specs.Holds.{layout_for, Page, in_set, Parts, Sets, Holds}

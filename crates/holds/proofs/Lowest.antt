@@ -25,7 +25,7 @@ use Rattle.table.specs.Stands.{Stands}
 use Rattle.table.proofs.Counts.{count_some, count_none}
 use Rattle.table.proofs.Touch.{touch_from}
 use Rattle.book.specs.declared.class.Class.{Class}
-use Rattle.book.specs.declared.spot.Spot.{Spot}
+use Rattle.layout.specs.declared.spot.Spot.{Spot}
 use Rattle.book.specs.Plan.{plan_of}
 use Rattle.book.specs.Spots.{place_of_spot, used_in, spot_page, spot_unit, spot_in, has_spot}
 use Rattle.holds.specs.Holds.{layout_for, in_set, Holds}

@@ -9,10 +9,11 @@ use Rattle.units.proofs.Elsewhere.{elsewhere}
 use Rattle.layout.specs.declared.field.Field.TheVariants.{Kind, Head, Used, Class}
 use Rattle.layout.specs.Layout.{templates_at, page_stride, page_at, field_at, taken_at, spoilt_at, asked_at}
 use Rattle.book.specs.declared.class.Class.{Class as ClassOf}
-use Rattle.book.specs.declared.spot.Spot.{Spot}
+use Rattle.layout.specs.declared.spot.Spot.{Spot}
 use Rattle.book.specs.Spots.{used_in}
 use Rattle.book.specs.Changes.{painted, filled, emptied, sized_in, spoilt_in}
-use Rattle.holds.proofs.Frames.{set_fits, OutsidePage}
+use Rattle.units.proofs.Written.{set_fits}
+use Rattle.holds.proofs.Frames.{OutsidePage}
 
 -- ---- words of one page written, one after the other
 

@@ -16,7 +16,7 @@ use Rattle.layout.specs.Layout.{index_in}
 use Rattle.units.specs.Units.{units}
 use Rattle.book.specs.declared.plan.Plan.{Plan}
 use Rattle.book.specs.declared.class.Class.{Class}
-use Rattle.book.specs.declared.spot.Spot.{Spot}
+use Rattle.layout.specs.declared.spot.Spot.{Spot}
 use Rattle.book.specs.Plan.{plan_of, class_of_size, has_class}
 use Rattle.book.specs.Spots.{place_of_spot, used_in, spot_in, has_spot}
 use Rattle.book.specs.Changes.{painted, filled, shelved, taken_in}

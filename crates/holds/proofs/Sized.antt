@@ -8,7 +8,7 @@ use Rattle.units.proofs.Elsewhere.{elsewhere}
 use Rattle.layout.specs.declared.field.Field.TheVariants.{Kind, Head, Used, Class}
 use Rattle.layout.specs.Layout.{page_stride, page_at, field_at, taken_at, spoilt_at, asked_at}
 use Rattle.table.specs.Table.{Table, sized, marked_spoilt, unit_place, free_unit}
-use Rattle.book.specs.declared.spot.Spot.{Spot}
+use Rattle.layout.specs.declared.spot.Spot.{Spot}
 use Rattle.book.specs.Spots.{place_of_spot}
 use Rattle.book.specs.Changes.{sized_in, spoilt_in}
 use Rattle.holds.specs.Holds.{Page, in_set, Holds}

@@ -17,7 +17,7 @@ use Rattle.layout.specs.declared.field.Field.TheVariants.{Kind, Head, Used, Clas
 use Rattle.layout.specs.Layout.{page_stride, page_at, groups, index_in, field_at, taken_at, spoilt_at, asked_at}
 use Rattle.table.specs.Table.{Table, touches, placed, one_if, fits, unit_place, free_unit}
 use Rattle.book.specs.declared.class.Class.{Class as ClassOf}
-use Rattle.book.specs.declared.spot.Spot.{Spot}
+use Rattle.layout.specs.declared.spot.Spot.{Spot}
 use Rattle.book.specs.Spots.{place_of_spot, used_in}
 use Rattle.book.specs.Changes.{painted, filled, shelved}
 use Rattle.holds.specs.Holds.{layout_for, Page, in_set, Parts, Sets, Holds}

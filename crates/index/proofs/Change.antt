@@ -16,17 +16,15 @@ cases_both a b c d = go (cases_eq a b) (cases_eq c d)
     go (inr e) f = inr (λ both. e both.0)
 
 -- what the code comes to, step by step: a and b are where the words lie, v and w what they were
-pub inserted_is : (i : Index) (m : List ℕ) (k p : ℕ) {a b v w low high : ℕ} {n r : List ℕ} →
-    a ≡ low_at i k (p / 64) → b ≡ high_at i k (p / 64 / 64) → v ≡ get_or m a 0 → w ≡ get_or m b 0 →
-    low ≡ with_bit v (p % 64) → high ≡ with_bit w (p / 64 % 64) → n ≡ set m a low → r ≡ set n b high → r ≡ inserted i m k p
+pub inserted_is : (i : Index) (m : List ℕ) (k p : ℕ) {low high : ℕ} {r : List ℕ} → low ≡ with_bit (low_of i m k (p / 64)) (p % 64) →
+    high ≡ with_bit (high_of i m k (p / 64 / 64)) (p / 64 % 64) → r ≡ with_words i m k p low high → r ≡ inserted i m k p
 unfolding inserted
-inserted_is i m k p ea eb ev ew el eh en er = cc
+inserted_is i m k p el eh er = cc
 
-pub removed_is : (i : Index) (m : List ℕ) (k p : ℕ) {a b v w low high : ℕ} {n r : List ℕ} →
-    a ≡ low_at i k (p / 64) → b ≡ high_at i k (p / 64 / 64) → v ≡ get_or m a 0 → w ≡ get_or m b 0 →
-    low ≡ without_bit v (p % 64) → high ≡ high_after w (p / 64 % 64) low → n ≡ set m a low → r ≡ set n b high → r ≡ removed i m k p
+pub removed_is : (i : Index) (m : List ℕ) (k p : ℕ) {low high : ℕ} {r : List ℕ} → low ≡ without_bit (low_of i m k (p / 64)) (p % 64) →
+    high ≡ high_after (high_of i m k (p / 64 / 64)) (p / 64 % 64) low → r ≡ with_words i m k p low high → r ≡ removed i m k p
 unfolding removed
-removed_is i m k p ea eb ev ew el eh en er = cc
+removed_is i m k p el eh er = cc
 
 -- what two new words must be like, so that only the page p of the set k changes and the levels tell the same
 pub record Fitting (i : Index) (m : List ℕ) (k p low high : ℕ) : Type 0 where

@@ -1,4 +1,3 @@
-pub mod Least
 pub mod Change
 pub mod Lowest
 pub mod Cleared

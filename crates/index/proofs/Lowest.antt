@@ -1,5 +1,5 @@
 -- What the two levels tell of the lowest page of two sets, where they tell the same.
-use Rattle.std.proofs.Common.{◌≡◌, ℕ, ◌+◌, ◌*◌, ◌/◌, ◌%◌, ◌^◌, ◌<◌, ◌≤◌, true, false, eqb, ltb, ◌⊎◌, List, Some, None, Option, sym, refl, ap, ◌∙◌, subst, inl, inr, ⊎_elim, arith}
+use Rattle.std.proofs.Common.{◌≡◌, ℕ, ◌+◌, ◌*◌, ◌/◌, ◌%◌, ◌^◌, ◌<◌, ◌≤◌, true, false, eqb, ltb, ◌⊎◌, List, Some, None, Option, MatchOption, sym, refl, ap, ◌∙◌, subst, inl, inr, ⊎_elim, arith}
 use lib.Bits.{bit_or, or_add_and}
 use Rattle.std.proofs.lemmas.Nat.{or_lt, and_le_l, and_le_r}
 use Rattle.std.proofs.lemmas.Bool.{ltb-true, ltb-false, lt-ltb, le-ltb, cases_lt, cases_eq, cond-true, cond-false, both_ways, eqb-true, eqb-false, or_cases, or_from, or_parts}
@@ -7,31 +7,19 @@ use Rattle.bits.specs.Bit.{bit, lowest_bit}
 use Rattle.bits.proofs.Digits.{Lowest, bit_zero, bit_of_or, bit_lowest}
 use Rattle.index.specs.declared.Index.{Index}
 use Rattle.index.specs.Index.{sets, high_words, low_at, high_at, low_of, high_of, member, lows, highs, in_either, first_high, first_in, first_page, Sound, LowestPage, FirstOf}
-use Rattle.index.proofs.Least.{Least, first_is, first_least}
+use Rattle.grounds.proofs.First.{first_hit, first_miss, first_is, first_none}
 
 -- ---- what the levels tell, word by word
 
 module _ (i : Index) (m : List ℕ) (k o : ℕ) where
-  pub highs_least : Least (λ h. ltb 0 (highs i m k o h)) high_words (first_high i m k o)
-  unfolding first_high
-  highs_least = first_least (λ h. ltb 0 (highs i m k o h)) high_words
-
-  -- how `first_high` ends
-  pub first_high_is : (n : ℕ) → n ≤ high_words → ((h : ℕ) → h < n → highs i m k o h ≡ 0) → (n < high_words → 0 < highs i m k o n) → n ≡ first_high i m k o
-  unfolding first_high
-  first_high_is n within below here =
-      sym (first_is (λ h. ltb 0 (highs i m k o h)) high_words n
-      record {
-        within = within;
-        below = λ h near. ap (ltb 0) (below h near);
-        here = λ near. lt-ltb 0 (highs i m k o n) (here near);
-      })
-
   pub some_high : (h : ℕ) → h ≡ first_high i m k o → h < high_words → 0 < highs i m k o h
-  some_high h e near = let least = highs_least in ltb-true 0 (highs i m k o h) (rw e (least.here (omega arith)))
+  unfolding first_high
+  some_high h e near =
+      ltb-true 0 (highs i m k o h) (rw e (first_hit (λ h. ltb 0 (highs i m k o h)) high_words (omega arith)))
 
   no_high : (h : ℕ) → h < first_high i m k o → highs i m k o h ≡ 0
-  no_high h near = let none = ltb-false 0 (highs i m k o h) (highs_least.below h near) in omega arith
+  unfolding first_high
+  no_high h near = let none = ltb-false 0 (highs i m k o h) (first_miss (λ h. ltb 0 (highs i m k o h)) high_words h near) in omega arith
 
   in_word : (q : ℕ) → in_either i m k o q ≡ bit (lows i m k o (q / 64)) (q % 64)
   unfolding member
@@ -59,6 +47,19 @@ module _ (i : Index) (m : List ℕ) (k o : ℕ) where
   in_some : (g : ℕ) → 0 < lows i m k o g → first_in i m k o g ≡ Some (64 * g + lowest_bit (lows i m k o g))
   unfolding first_in
   in_some g some = cond-true (ltb 0 (lows i m k o g)) (Some (64 * g + lowest_bit (lows i m k o g))) None (lt-ltb 0 (lows i m k o g) some)
+
+  in_none : (g : ℕ) → lows i m k o g ≡ 0 → first_in i m k o g ≡ None
+  unfolding first_in
+  in_none g none = cond-false (ltb 0 (lows i m k o g)) (Some (64 * g + lowest_bit (lows i m k o g))) None (le-ltb 0 (lows i m k o g) (omega arith))
+
+  -- the same with the low word of the group, which may be 0 whatever the high word says
+  pub page_found : {h w b low c : ℕ} → (h < high_words) × (h ≡ first_high i m k o) → w ≡ highs i m k o h → b ≡ lowest_bit w →
+      low ≡ lows i m k o (64 * h + b) → 0 < low → c ≡ lowest_bit low → Some (64 * (64 * h + b) + c) ≡ first_page i m k o
+  page_found (near, eh) ew eb el some ec = page_is eh near ew eb (rw (ec, el) (sym (in_some _ (rw (← el) some))))
+
+  pub page_missing : {h w b low : ℕ} → (h < high_words) × (h ≡ first_high i m k o) → w ≡ highs i m k o h → b ≡ lowest_bit w →
+      low ≡ lows i m k o (64 * h + b) → low ≡ 0 → None ≡ first_page i m k o
+  page_missing (near, eh) ew eb el none = page_is eh near ew eb (sym (in_none _ (sym el ∙ none)))
 
 -- two words in one are 0 only if both are
 or_some : (a b : ℕ) → (0 < a) ⊎ (0 < b) → 0 < bit_or a b
@@ -155,3 +156,15 @@ module _ (i : Index) (groups : ℕ) (m : List ℕ) (s : Sound i groups m) (k o :
           (λ q near.
           none_in q near
           (ap (λ (w : ℕ). bit w (q / 64 % 64)) (no_high i m k o (q / 64 / 64) (omega (arith, s.few))) ∙ bit_zero (q / 64 % 64)))
+
+-- what a search over the high words finds
+pub high_found : (i : Index) (m : List ℕ) (k o : ℕ) (r : Option ℕ) →
+    MatchOption r ((h : ℕ) → 0 ≤ h → h < high_words → highs i m k o h ≡ 0)
+    (λ at. (0 ≤ at) × (at < high_words) × (0 < highs i m k o at) × ((h : ℕ) → 0 ≤ h → h < at → highs i m k o h ≡ 0)) →
+    MatchOption r (first_high i m k o ≡ high_words) (λ at. (at < high_words) × (at ≡ first_high i m k o))
+unfolding first_high
+high_found i m k o None none = first_none (λ h. ltb 0 (highs i m k o h)) high_words (λ h near. ap (ltb 0) (none h (omega arith) near))
+high_found i m k o (Some at) (low, near, here, below) = (
+  near,
+  sym (first_is (λ h. ltb 0 (highs i m k o h)) high_words at near (lt-ltb 0 (highs i m k o at) here) (λ h under. ap (ltb 0) (below h (omega arith) under))),
+)

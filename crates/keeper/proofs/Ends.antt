@@ -16,7 +16,7 @@ use Rattle.table.specs.Stands.{Stands}
 use Rattle.table.specs.Answers.{table_turned_by, table_turned, table_chosen, table_after, table_ground}
 use Rattle.book.specs.declared.plan.Plan.{Plan}
 use Rattle.book.specs.Plan.{plan_of}
-use Rattle.book.specs.declared.spot.Spot.{Spot}
+use Rattle.layout.specs.declared.spot.Spot.{Spot}
 use Rattle.book.specs.Spots.{spot_at, kind_in, asked_in, room_good}
 use Rattle.book.specs.Changes.{sized_in, spoilt_in, rested_in}
 use Rattle.holds.proofs.Told.{plan_told}

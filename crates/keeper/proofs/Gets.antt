@@ -17,7 +17,7 @@ use Rattle.table.specs.Runs.{found}
 use Rattle.table.specs.Answers.{table_turned_by, table_turned, table_chosen, table_after, table_ground}
 use Rattle.book.specs.declared.plan.Plan.{Plan}
 use Rattle.book.specs.declared.class.Class.{Class}
-use Rattle.book.specs.declared.spot.Spot.{Spot}
+use Rattle.layout.specs.declared.spot.Spot.{Spot}
 use Rattle.book.specs.Plan.{plan_of, class_of_size, has_class}
 use Rattle.book.specs.Spots.{place_of_spot, spot_in, has_spot}
 use Rattle.book.specs.Changes.{taken_in, sized_in, spoilt_in}

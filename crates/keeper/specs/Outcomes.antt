@@ -14,7 +14,7 @@ use Rattle.grounds.specs.Numbers.{mark_length}
 use Rattle.grounds.specs.Lists.{same, part, over, all_zero}
 use Rattle.book.specs.declared.plan.Plan.{Plan}
 use Rattle.book.specs.declared.class.Class.{Class}
-use Rattle.book.specs.declared.spot.Spot.{Spot}
+use Rattle.layout.specs.declared.spot.Spot.{Spot}
 use Rattle.book.specs.Plan.{plan_of, plan_good, class_of_size, has_class}
 use Rattle.book.specs.Spots.{place_of_spot, spot_at, is_spot, kind_in, asked_in, room_good, spot_in, has_spot}
 use Rattle.book.specs.Changes.{taken_in, sized_in, spoilt_in, rested_in}

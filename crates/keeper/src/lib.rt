@@ -1,3 +1,2 @@
-#![tactic(auto)]
-
 // The keeper: what is asked of it, over its memory and the ground, both lent.
+#![tactic(auto)]

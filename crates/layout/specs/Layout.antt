@@ -3,6 +3,7 @@
 --     header, page_stride       how many words the header has; how many each page has
 --     page_at p                 where the words of the page p begin; field_at p f, where its field f is
 --     taken_at, spoilt_at p     where the bits of the page begin that tell which units have a piece that begins there, and which have one that is spoilt
+--     units_at p f              where the bits of the page begin that tell the one or the other
 --     asked_at p u              where it stands how much was asked for the piece that is out and begins at the unit u of the page p
 --     queue_in, index_in x      where the queue lies, and where the two levels of the index do; groups n, how many groups of 64 pages n pages are
 --     Area, areas x             a part of memory; the parts of it, in their order; page_areas, those of the words of one page
@@ -16,6 +17,8 @@ use Rattle.units.specs.Units.{units, unit_words}
 use Rattle.layout.specs.declared.field.Field.{Field}
 use Rattle.layout.specs.declared.field.Field.TheVariants.{Kind, Head, Used, Class}
 use Rattle.layout.specs.declared.layout.Layout.{Layout}
+use Rattle.layout.specs.declared.field.UnitField.{UnitField}
+use Rattle.layout.specs.declared.field.UnitField.TheVariants.{Taken, Spoilt}
 
 -- ---- the header
 
@@ -84,6 +87,10 @@ taken_at p = page_at p + taken_from
 
 abbrev pub spoilt_at : ℕ → ℕ
 spoilt_at p = page_at p + spoilt_from
+
+abbrev pub units_at : ℕ → UnitField → ℕ
+units_at p Taken = taken_at p
+units_at p Spoilt = spoilt_at p
 
 abbrev pub asked_at : ℕ → ℕ → ℕ
 asked_at p u = page_at p + asked_from + u

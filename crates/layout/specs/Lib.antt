@@ -1,1 +1,3 @@
+-- To be read in this order.
+pub mod Sizes
 pub mod Layout

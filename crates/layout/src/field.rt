@@ -1,60 +1,48 @@
-// What is known of a page, a word for each: read and written in any memory.
-ghost use Rattle.grounds.specs.Numbers.{most_pages};
-ghost use Rattle.layout.specs.Layout.{asked_at, field_at, offset};
-ghost use Rattle.units.specs.Units.{units};
-ghost use Rattle.std.specs.Prelude.{◌<◌, ◌≡◌, slice_index, slice_set};
+// What is known of a page, a word for each thing: read and written in any memory.
+ghost use Rattle.layout.specs.Layout.{field_at};
+ghost use Rattle.std.specs.Prelude.{◌≡◌, slice_index, slice_set};
 
-use crate::layout::{asked_at, page_at};
+use crate::layout::page_at;
+use grounds::page::Page;
 use words::{put, word};
 
-#[derive(Clone, Copy)]
+// Each field is the number of its word among those of its page.
+#[derive(Clone, Copy, Debug, PartialEq, Eq)]
 pub enum Field {
     // how much the pieces that touch the page take
-    Kind,
+    Kind = 0,
     // the page on which they begin
-    Head,
+    Head = 1,
     // how many they are
-    Used,
+    Used = 2,
     // the number of the class that they are of
-    Class,
+    Class = 3,
 }
 
-fn offset(field: Field) -> usize
-    ensures { result ≡ offset field }
+// What is known of each unit of a page, a bit for each: where the words of these bits begin among those of the page.
+#[derive(Clone, Copy, Debug, PartialEq, Eq)]
+pub enum UnitField {
+    // whether a piece begins there
+    Taken = 4,
+    // whether a piece begins there that is spoilt
+    Spoilt = 8,
+}
+
+// Where the word of a field lies.
+fn field_at(page: Page, field: Field) -> usize
+    ensures { result ≡ field_at page field }
 {
-    match field {
-        Field::Kind => 0,
-        Field::Head => 1,
-        Field::Used => 2,
-        Field::Class => 3,
-    }
+    page_at(page.number()) + field as usize
 }
 
-pub fn read(memory: &[u64], page: usize, field: Field) -> u64
-    requires { page < most_pages }
+pub fn read(memory: &[u64], page: Page, field: Field) -> u64
     ensures { result ≡ slice_index memory.now (field_at page field) }
 {
-    word(memory, page_at(page) + offset(field))
+    word(memory, field_at(page, field))
 }
 
-pub fn write(memory: &mut [u64], page: usize, field: Field, value: u64)
-    requires { page < most_pages }
+pub fn write(memory: &mut [u64], page: Page, field: Field, value: u64)
     ensures { memory.new ≡ slice_set memory.old (field_at page field) value }
 {
-    put(memory, page_at(page) + offset(field), value);
-}
-
-// How much was asked for the piece that is out and begins at a unit of a page.
-pub fn asked(memory: &[u64], page: usize, unit: usize) -> u64
-    requires { (page < most_pages) × (unit < units) }
-    ensures { result ≡ slice_index memory.now (asked_at page unit) }
-{
-    word(memory, asked_at(page, unit))
-}
-
-pub fn set_asked(memory: &mut [u64], page: usize, unit: usize, size: u64)
-    requires { (page < most_pages) × (unit < units) }
-    ensures { memory.new ≡ slice_set memory.old (asked_at page unit) size }
-{
-    put(memory, asked_at(page, unit), size);
+    put(memory, field_at(page, field), value);
 }

@@ -7,6 +7,7 @@ ghost use Rattle.layout.specs.Layout.{AreasInOrder, FieldsInOrder};
 pub mod field;
 pub mod header;
 pub mod layout;
+pub mod spot;
 
 // No two parts of memory share a word, and all lie in it.
 pub fn areas_in_order()

@@ -1,4 +1,3 @@
 pub mod Rise
-pub mod Good
 pub mod Lookups
 pub mod Numbers

@@ -3,12 +3,15 @@
 --     NumbersRead bs old new r       r numbers were read from bs, and stand at the front of a table that held old and now holds new, and behind them it is
 --                             as it was; or bs is no whole number of them that has room there, and nothing changed
 --     LimitsRead ns r                r is the limits of which ns are the numbers, if there are any
-use Rattle.std.specs.Prelude.{◌≡◌, ℕ, ◌*◌, ◌≤◌, true, List, ◌∷◌, ◌++◌, length, take, drop, Option, MatchOption, ◌≢◌}
+--     LimitsTried ns r               the same, and where there are none r tells why
+use Rattle.std.specs.Prelude.{◌≡◌, ℕ, ◌*◌, ◌≤◌, true, List, ◌∷◌, ◌++◌, length, take, drop, Option, MatchOption, Result, MatchResult, ◌≢◌, ◌↔◌, ◌<◌, ◌+◌}
 use Rattle.std.specs.List.{flat_map}
 use Rattle.grounds.specs.Numbers.{mark_length}
 use Rattle.grounds.specs.Lists.{bytes}
 use Rattle.codec.specs.Bytes.{number_bytes, number_length}
 use Rattle.limits.specs.declared.limits.Limits.{Limits as Given}
+use Rattle.limits.specs.declared.bytes.NotLimits.{NotLimits}
+use Rattle.limits.specs.declared.bytes.NotLimits.TheVariants.{TooFew}
 
 abbrev pub numbers_of : Given → List ℕ
 numbers_of x = x.pages ∷ (x.rests ∷ (x.marks ++ x.classes.now))
@@ -27,3 +30,10 @@ pub record HasMark (x : Given) : Type 0 where
 
 abbrev pub LimitsRead : List ℕ → Option Given → Type 0
 LimitsRead ns r = MatchOption r ((x : Given) → HasMark x → ns ≢ numbers_of x) (λ x. ns ≡ numbers_of x)
+
+abbrev pub LimitsTried : List ℕ → Result Given NotLimits → Type 0
+LimitsTried ns r =
+    MatchResult
+    r
+    (λ x. ns ≡ numbers_of x)
+    (λ e. ((x : Given) → HasMark x → ns ≢ numbers_of x) × ((e ≡ TooFew) ↔ (length ns < 2 + mark_length)))

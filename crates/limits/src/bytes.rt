@@ -1,45 +1,67 @@
 // Limits as bytes: numbers of eight bytes, the lowest first: pages, how many rest, the two bytes of the mark, and then each class.
-ghost use Rattle.limits.specs.Bytes.{LimitsRead, NumbersRead};
+ghost use Rattle.std.specs.Prelude.{◌≡◌, ◌≤◌, MatchResult};
+ghost use Rattle.grounds.specs.Numbers.{byte};
+ghost use Rattle.limits.specs.declared.bytes.NotLimits.TheVariants.{NoByte};
+ghost use Rattle.limits.specs.Bytes.{LimitsRead, LimitsTried, NumbersRead};
 
 use crate::limits::Limits;
 use codec::number::{NUMBER_LEN, number_of};
 
-// How many numbers stand before the classes.
-const BEFORE_CLASSES: usize = 4;
-
-// Reads all of the bytes as numbers into the front of the table, and tells how many there are. Where they are no whole number of these, or more than
+// Reads all of the bytes as numbers into the front of the table, which the caller lends, since there is no heap, and tells how many there are. Where they are no whole number of these, or more than
 // the table has room for, it writes nothing.
 pub fn read_numbers(bytes: &[u8], table: &mut [u64]) -> Option<usize>
     ensures { NumbersRead bytes.now table.old table.new result }
 {
-    let count = bytes.len() / NUMBER_LEN;
-    if bytes.len() % NUMBER_LEN != 0 || count > table.len() {
+    let (eights, []) = bytes.as_chunks::<NUMBER_LEN>() else {
+        return None;
+    };
+    if eights.len() > table.len() {
         return None;
     }
-    for i in 0..count {
-        let from = NUMBER_LEN * i;
-        table[i] = number_of(&bytes[from..from + NUMBER_LEN]);
+    // The place is counted, since of parts of the table that a zip lends it stayed unproved what they hold in the end.
+    for (i, eight) in eights.iter().enumerate() {
+        table[i] = number_of(eight);
     }
-    Some(count)
+    Some(eights.len())
 }
 
-// The limits that have these numbers, if there are any: there is a number for each but the classes, and those of the mark fit a byte.
+// Why numbers are those of no limits.
+#[derive(Clone, Copy, PartialEq, Eq, Debug)]
+pub enum NotLimits {
+    // there is not one for each but the classes
+    TooFew,
+    // one that stands for a byte of the mark fits none
+    NoByte,
+}
+
+// The byte of a mark that a number stands for.
+fn mark_byte(number: u64) -> Result<u8, NotLimits>
+    ensures { MatchResult result (λ b. b ≡ number) (λ e. (e ≡ NoByte) × (byte ≤ number)) }
+{
+    u8::try_from(number).map_err(|_| NotLimits::NoByte)
+}
+
+impl<'a> TryFrom<&'a [u64]> for Limits<'a> {
+    type Error = NotLimits;
+
+    ghost try_from_gives = { λ numbers r. LimitsTried numbers.now r };
+
+    fn try_from(numbers: &'a [u64]) -> Result<Self, NotLimits> {
+        let [pages, rests, first, second, classes @ ..] = numbers else {
+            return Err(NotLimits::TooFew);
+        };
+        Ok(Limits {
+            pages: *pages,
+            classes,
+            rests: *rests,
+            marks: [mark_byte(*first)?, mark_byte(*second)?],
+        })
+    }
+}
+
+// The same as an option: the limits that have these numbers, if there are any: there is a number for each but the classes, and those of the mark fit a byte.
 pub fn limits_from(numbers: &[u64]) -> Option<Limits<'_>>
     ensures { LimitsRead numbers.now result }
 {
-    if numbers.len() < BEFORE_CLASSES {
-        return None;
-    }
-    let Ok(first) = u8::try_from(numbers[2]) else {
-        return None;
-    };
-    let Ok(second) = u8::try_from(numbers[3]) else {
-        return None;
-    };
-    Some(Limits {
-        pages: numbers[0],
-        classes: &numbers[BEFORE_CLASSES..],
-        rests: numbers[1],
-        marks: [first, second],
-    })
+    Limits::try_from(numbers).ok()
 }

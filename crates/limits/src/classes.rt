@@ -6,9 +6,11 @@ ghost use Rattle.grounds.specs.Worlds.{rising};
 use grounds::numbers::{GRAIN, MOST_CLASSES, PAGE};
 
 // Whether each class is a multiple of the grain, no more than a page, and above the one before.
+#[tactic(auto, using(crate::proofs::Rise::rises))]
 fn rise(classes: &[u64]) -> bool
     ensures { result ≡ rising 0 classes.now }
 {
+    // Each class is looked at beside the one before: iterators would take one pass over neighbours and another over each alone.
     let mut last = 0;
     for class in classes {
         if *class <= last || *class % GRAIN != 0 || *class > PAGE {
@@ -23,8 +25,5 @@ fn rise(classes: &[u64]) -> bool
 pub fn are_good(classes: &[u64]) -> bool
     ensures { Decides result ((1 ≤ length classes.now) × (length classes.now ≤ most_classes) × (rising 0 classes.now ≡ true)) }
 {
-    if classes.is_empty() || classes.len() > MOST_CLASSES {
-        return false;
-    }
-    rise(classes)
+    !classes.is_empty() && classes.len() <= MOST_CLASSES && rise(classes)
 }

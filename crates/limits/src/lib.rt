@@ -3,5 +3,6 @@
 
 pub mod bytes;
 pub mod classes;
+pub mod good;
 pub mod limits;
 pub mod lookup;

@@ -2,11 +2,10 @@
 use grounds::numbers::{
     FIXED_WORDS, GRAIN, MOST_CLASSES, MOST_PAGES, MOST_RESTS, PAGE, PAGE_WORDS, REST_WORDS,
 };
-use limits::bytes::{limits_from, read_numbers};
+use limits::bytes::{NotLimits, limits_from, read_numbers};
 use limits::limits::Limits;
 use limits::lookup::{class_number, row_of};
 use std::process::Abort;
-use std::test::Fail;
 
 const CLASSES: [u64; 3] = [GRAIN, 1024, PAGE];
 
@@ -27,9 +26,14 @@ fn usual(classes: &[u64]) -> Limits<'_> {
 }
 
 fn is_refused(rt: &impl Abort, limits: Limits<'_>, what: &str) {
+    assert!(rt; limits.good().is_none(), "{what}");
     assert!(rt; !limits.are_good(), "{what}");
     assert!(rt; limits.memory_words().is_none(), "{what}");
     assert!(rt; limits.ground_bytes().is_none(), "{what}");
+}
+
+fn why_not(numbers: &[u64]) -> Option<NotLimits> {
+    Limits::try_from(numbers).err()
 }
 
 #[test]
@@ -42,8 +46,8 @@ fn largest(rt: HostRuntime) {
     };
     assert!(rt; limits.are_good());
     let words = PAGE_WORDS * MOST_PAGES + REST_WORDS * MOST_RESTS + FIXED_WORDS;
-    assert!(rt; limits.memory_words() == Some(words));
-    assert!(rt; limits.ground_bytes() == Some(MOST_PAGES * PAGE));
+    assert_eq!(rt; limits.memory_words(), Some(words));
+    assert_eq!(rt; limits.ground_bytes(), Some(MOST_PAGES * PAGE));
 }
 
 #[test]
@@ -55,8 +59,8 @@ fn smallest(rt: HostRuntime) {
         marks: [1, 1],
     };
     assert!(rt; limits.are_good());
-    assert!(rt; limits.memory_words() == Some(PAGE_WORDS + FIXED_WORDS));
-    assert!(rt; limits.ground_bytes() == Some(PAGE));
+    assert_eq!(rt; limits.memory_words(), Some(PAGE_WORDS + FIXED_WORDS));
+    assert_eq!(rt; limits.ground_bytes(), Some(PAGE));
 }
 
 #[test]
@@ -110,21 +114,22 @@ fn bad_classes(rt: HostRuntime) {
 }
 
 #[test]
-fn from_bytes(rt: HostRuntime) -> Result<(), Fail> {
+fn from_bytes(rt: HostRuntime) {
     let bytes = [
         2, 0, 0, 0, 0, 0, 0, 0, 3, 0, 0, 0, 0, 0, 0, 0, 66, 0, 0, 0, 0, 0, 0, 0, 99, 0, 0, 0, 0, 0,
         0, 0, 0, 4, 0, 0, 0, 0, 0, 0,
     ];
     let mut numbers = [7; 6];
-    assert!(rt; read_numbers(&bytes, &mut numbers) == Some(5));
-    assert!(rt; numbers == [2, 3, 66, 99, 1024, 7]);
-    let Some(limits) = limits_from(&numbers[..5]) else {
-        return Err(Fail::new("these are limits"));
+    assert_eq!(rt; read_numbers(&bytes, &mut numbers), Some(5));
+    assert_eq!(rt; numbers, [2, 3, 66, 99, 1024, 7]);
+    let limits = Limits {
+        pages: 2,
+        classes: &[1024],
+        rests: 3,
+        marks: [66, 99],
     };
-    assert!(rt; limits.pages == 2 && limits.rests == 3 && limits.marks == [66, 99]);
-    assert!(rt; limits.classes.len() == 1 && limits.classes[0] == 1024);
+    assert_eq!(rt; limits_from(&numbers[..5]), Some(limits));
     assert!(rt; limits.are_good());
-    Ok(())
 }
 
 #[test]
@@ -135,14 +140,20 @@ fn not_from_bytes(rt: HostRuntime) {
         "a part of a number"
     );
     assert!(rt; read_numbers(&[1; 16], &mut numbers).is_none(), "no room");
-    assert!(rt; numbers == [7]);
+    assert_eq!(rt; numbers, [7]);
     assert!(rt; limits_from(&[1, 1, 66]).is_none(), "too few");
+    assert_eq!(rt; why_not(&[1, 1, 66]), Some(NotLimits::TooFew), "too few");
     assert!(rt;
         limits_from(&[1, 1, 256, 99, 16]).is_none(),
         "first of the mark"
     );
     assert!(rt;
         limits_from(&[1, 1, 66, 256, 16]).is_none(),
+        "second of the mark"
+    );
+    assert_eq!(rt;
+        why_not(&[1, 1, 66, 256, 16]),
+        Some(NotLimits::NoByte),
         "second of the mark"
     );
 }
@@ -159,6 +170,6 @@ fn least_class(rt: HostRuntime) {
         (4095, 3),
     ];
     for (size, wanted) in table {
-        assert!(rt; class_number(&CLASSES, GRAIN * row_of(size)) == wanted);
+        assert_eq!(rt; class_number(&CLASSES, GRAIN * row_of(size)), wanted);
     }
 }

@@ -2,10 +2,11 @@
 ghost use Rattle.std.specs.Prelude.{◌≡◌, ◌<◌};
 ghost use Rattle.opening.specs.Opening.{barred, ones};
 ghost use Rattle.table.specs.Table.{fits};
-ghost use Rattle.units.specs.Units.{units, unit_words};
+ghost use Rattle.units.specs.Units.{unit_words};
 
-use bits::{WORD_BITS, with_set};
+use bits::{WORD_BITS, bit_of, with_set};
 use grounds::numbers::{GRAIN, PAGE};
+use units::unit::Unit;
 
 // A word whose lowest bits are set, as many as that.
 pub fn ones(count: u64) -> u64
@@ -19,15 +20,16 @@ pub fn ones(count: u64) -> u64
 }
 
 // Whether a piece of a class may begin at a unit of a page.
-fn may_begin(class: u64, unit: u64) -> bool
-    requires { (0 < class) × (unit < units) }
+fn may_begin(class: u64, unit: Unit) -> bool
+    requires { 0 < class }
     ensures { result ≡ fits class unit }
 {
-    GRAIN * unit % class == 0 && class <= PAGE - GRAIN * unit
+    let from = GRAIN * unit.number() as u64;
+    from % class == 0 && class <= PAGE - from
 }
 
 // The bits, in one of a page's four words, of the units where no piece of a class may begin.
-pub fn barred(class: u64, word: u64) -> u64
+pub fn barred(class: u64, word: usize) -> u64
     requires { word < unit_words }
     ensures { result ≡ barred class word }
 {
@@ -35,9 +37,10 @@ pub fn barred(class: u64, word: u64) -> u64
     if class == 0 {
         return bits;
     }
-    for k in 0..WORD_BITS as u32 {
-        if !may_begin(class, WORD_BITS as u64 * word + k as u64) {
-            bits = with_set(bits, k);
+    // `k` is the number of a bit and no index: a filter and a fold over the same range would say it no plainer.
+    for k in 0..WORD_BITS {
+        if !may_begin(class, Unit::new(WORD_BITS * word + k)) {
+            bits = with_set(bits, bit_of(k));
         }
     }
     bits

@@ -1,6 +1,5 @@
 // What each word of memory is after an opening.
-ghost use Rattle.std.specs.Prelude.{◌≡◌, ℕ, ◌^◌, ◌<◌, ◌≤◌, Bool};
-ghost use Rattle.grounds.specs.Numbers.{most_pages, most_rests};
+ghost use Rattle.std.specs.Prelude.{◌≡◌, ℕ, ◌<◌, ◌≤◌, Bool};
 ghost use Rattle.layout.specs.Layout.{high_at, templates_at};
 ghost use Rattle.limits.specs.Limits.{limits_in};
 ghost use Rattle.opening.specs.Opening.{header_word, high_word, index_word, limit_word, low_word, opened_word, table_word};
@@ -8,27 +7,26 @@ ghost use Rattle.opening.specs.Opening.{header_word, high_word, index_word, limi
 use crate::bits_at_first::{barred, ones};
 use bits::WORD_BITS;
 use grounds::numbers::{GRAIN, MARK_LEN, MOST_CLASSES};
-use index::{HIGH_WORDS, SETS};
+use index::HIGH_WORDS;
+use index::set::SETS;
 use layout::header::{
     CLASSES_AT, COUNT_AT, HEADER, HIGH_AT, LOOKUP_AT, MARKS_AT, PAGES_AT, RESTS_AT, TEMPLATES_AT,
 };
 use layout::layout::{Layout, groups};
+use limits::good::GoodLimits;
 use limits::limits::Limits;
 use limits::lookup::class_number;
-use units::UNIT_WORDS;
+use units::unit::UNIT_WORDS;
 use words::word;
 
 fn limit_word(limits: &Limits<'_>, at: usize) -> u64
     ensures { (can : ℕ → Bool) → result ≡ limit_word (limits_in can limits.now) at }
 {
-    if at == PAGES_AT {
-        limits.pages
-    } else if at == RESTS_AT {
-        limits.rests
-    } else if at == COUNT_AT {
-        limits.classes.len() as u64
-    } else {
-        0
+    match at {
+        PAGES_AT => limits.pages,
+        RESTS_AT => limits.rests,
+        COUNT_AT => limits.classes.len() as u64,
+        _ => 0,
     }
 }
 
@@ -52,10 +50,7 @@ fn table_word(limits: &Limits<'_>, at: usize) -> u64
 {
     if at < LOOKUP_AT {
         let k = at - TEMPLATES_AT;
-        barred(
-            word(limits.classes, k / UNIT_WORDS),
-            (k % UNIT_WORDS) as u64,
-        )
+        barred(word(limits.classes, k / UNIT_WORDS), k % UNIT_WORDS)
     } else {
         class_number(limits.classes, GRAIN * (at - LOOKUP_AT) as u64) as u64
     }
@@ -63,7 +58,6 @@ fn table_word(limits: &Limits<'_>, at: usize) -> u64
 
 // The word k of the high level of the index.
 fn high_word(pages: usize, k: usize) -> u64
-    requires { pages ≤ most_pages }
     ensures { result ≡ high_word pages k }
 {
     if k / HIGH_WORDS == MOST_CLASSES {
@@ -73,46 +67,46 @@ fn high_word(pages: usize, k: usize) -> u64
     }
 }
 
-// The word k of the low level of the index.
+// The word k of the low level of the index. It differs from that of the high level in which part of k is the set, and in what is counted.
 fn low_word(pages: usize, k: usize) -> u64
-    requires { (pages ≤ most_pages) × (k < 2 ^ 40) }
     ensures { result ≡ low_word pages k }
 {
     if k % SETS == MOST_CLASSES {
-        ones(pages.saturating_sub(WORD_BITS * (k / SETS)) as u64)
+        // No bound on k is known here: where the product would not fit, there are no pages left.
+        ones(pages.saturating_sub(WORD_BITS.saturating_mul(k / SETS)) as u64)
     } else {
         0
     }
 }
 
-fn index_word(limits: &Limits<'_>, at: usize) -> u64
-    requires { (limits.now.pages ≤ most_pages) × ((limits.now.rests ≤ most_rests) × ((high_at ≤ at) × (at < 2 ^ 40))) }
-    ensures { (can : ℕ → Bool) → result ≡ index_word (limits_in can limits.now) at }
+fn index_word(good: &GoodLimits<'_>, at: usize) -> u64
+    requires { high_at ≤ at }
+    ensures { (can : ℕ → Bool) → result ≡ index_word (limits_in can good.now.limits) at }
 {
+    let pages = good.limits.pages as usize;
     if at < HEADER {
-        return high_word(limits.pages as usize, at - HIGH_AT);
+        return high_word(pages, at - HIGH_AT);
     }
     let layout = Layout {
-        pages: limits.pages as usize,
-        rests: limits.rests as usize,
+        pages,
+        rests: good.limits.rests as usize,
     };
     let low = layout.index().low;
     if at < low {
         0
     } else {
-        low_word(limits.pages as usize, at - low)
+        low_word(pages, at - low)
     }
 }
 
-pub fn opened_word(limits: &Limits<'_>, at: usize) -> u64
-    requires { (limits.now.pages ≤ most_pages) × ((limits.now.rests ≤ most_rests) × (at < 2 ^ 40)) }
-    ensures { (can : ℕ → Bool) → result ≡ opened_word (limits_in can limits.now) at }
+pub fn opened_word(good: &GoodLimits<'_>, at: usize) -> u64
+    ensures { (can : ℕ → Bool) → result ≡ opened_word (limits_in can good.now.limits) at }
 {
     if at < TEMPLATES_AT {
-        header_word(limits, at)
+        header_word(&good.limits, at)
     } else if at < HIGH_AT {
-        table_word(limits, at)
+        table_word(&good.limits, at)
     } else {
-        index_word(limits, at)
+        index_word(good, at)
     }
 }

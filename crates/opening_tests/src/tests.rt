@@ -10,16 +10,12 @@ const WORDS: usize = 1298;
 
 const BYTES: usize = 4096;
 
-const CLASSES: [u64; 2] = [16, 1024];
-
-fn usual(classes: &[u64]) -> Limits<'_> {
-    Limits {
-        pages: 1,
-        classes,
-        rests: 1,
-        marks: [66, 99],
-    }
-}
+const GOOD: Limits<'static> = Limits {
+    pages: 1,
+    classes: &[16, 1024],
+    rests: 1,
+    marks: [66, 99],
+};
 
 // Each of these words is that number.
 fn holds(rt: &impl Abort, memory: &[u64], words: &[(usize, u64)], what: &str) {
@@ -32,7 +28,7 @@ fn holds(rt: &impl Abort, memory: &[u64], words: &[(usize, u64)], what: &str) {
 fn opens(rt: HostRuntime) {
     let mut memory = [7; WORDS];
     let ground = [9; BYTES];
-    let answer = open(&mut memory, &ground, &usual(&CLASSES));
+    let answer = open(&mut memory, &ground, &GOOD);
     assert!(rt; answer == Answer::Done, "it is refused");
     holds(
         &rt,
@@ -90,26 +86,24 @@ fn refuses(rt: &impl Abort, memory: &mut [u64], ground: &[u8], limits: &Limits<'
 
 #[test]
 fn other_lengths(rt: HostRuntime) {
-    let limits = usual(&CLASSES);
     let mut memory = [7; WORDS];
-    refuses(&rt, &mut memory, &[9; BYTES + 1], &limits, "more ground");
-    refuses(&rt, &mut memory, &[9; BYTES - 1], &limits, "less ground");
+    refuses(&rt, &mut memory, &[9; BYTES + 1], &GOOD, "more ground");
+    refuses(&rt, &mut memory, &[9; BYTES - 1], &GOOD, "less ground");
     let mut more = [7; WORDS + 1];
-    refuses(&rt, &mut more, &[9; BYTES], &limits, "more memory");
+    refuses(&rt, &mut more, &[9; BYTES], &GOOD, "more memory");
     let mut less = [7; WORDS - 1];
-    refuses(&rt, &mut less, &[9; BYTES], &limits, "less memory");
+    refuses(&rt, &mut less, &[9; BYTES], &GOOD, "less memory");
 }
 
 #[test]
 fn bad_limits(rt: HostRuntime) {
     let mut memory = [7; WORDS];
     let ground = [9; BYTES];
-    let good = usual(&CLASSES);
     refuses(
         &rt,
         &mut memory,
         &ground,
-        &Limits { pages: 0, ..good },
+        &Limits { pages: 0, ..GOOD },
         "no pages",
     );
     refuses(
@@ -118,7 +112,7 @@ fn bad_limits(rt: HostRuntime) {
         &ground,
         &Limits {
             pages: MOST_PAGES + 1,
-            ..good
+            ..GOOD
         },
         "pages",
     );
@@ -128,7 +122,7 @@ fn bad_limits(rt: HostRuntime) {
         &ground,
         &Limits {
             rests: MOST_RESTS + 1,
-            ..good
+            ..GOOD
         },
         "rests",
     );
@@ -138,7 +132,7 @@ fn bad_limits(rt: HostRuntime) {
         &ground,
         &Limits {
             marks: [0, 99],
-            ..good
+            ..GOOD
         },
         "first of the mark",
     );
@@ -148,17 +142,38 @@ fn bad_limits(rt: HostRuntime) {
         &ground,
         &Limits {
             marks: [66, 0],
-            ..good
+            ..GOOD
         },
         "second of the mark",
     );
-    refuses(&rt, &mut memory, &ground, &usual(&[]), "no classes");
     refuses(
         &rt,
         &mut memory,
         &ground,
-        &usual(&[16, 24]),
+        &Limits {
+            classes: &[],
+            ..GOOD
+        },
+        "no classes",
+    );
+    refuses(
+        &rt,
+        &mut memory,
+        &ground,
+        &Limits {
+            classes: &[16, 24],
+            ..GOOD
+        },
         "no whole grains",
     );
-    refuses(&rt, &mut memory, &ground, &usual(&[32, 16]), "falling");
+    refuses(
+        &rt,
+        &mut memory,
+        &ground,
+        &Limits {
+            classes: &[32, 16],
+            ..GOOD
+        },
+        "falling",
+    );
 }

@@ -72,9 +72,7 @@ fn play_line<'a>(
 }
 
 fn play_lines(rt: &HostRuntime, file: &str, text: &str) -> Result<(), Stopped> {
-    let mut number = 0u64;
-    for line in text.lines() {
-        number = number.saturating_add(1);
+    for (number, line) in (1u64..).zip(text.lines()) {
         play_line(rt, file, number, line)?;
     }
     Ok(())

@@ -78,7 +78,7 @@ module _ (r : Ring) (m : List ℕ) (s : Sound r m) (b v k : ℕ) (bn : b < r.«c
       go (inr n) (inr c) (inl e) = rw e (rw slot_read vf)
       go (inr n) (inr c) (inr f) = rw (other_read a n c f) (s.fits a)
 
-  with_sound : v < 2 ^ 64 → r.«cap» ≤ 2 ^ 40 → k ≤ r.«cap» → Sound r (with_newest r m b v k)
+  with_sound : v < 2 ^ 64 → r.«cap» < 2 ^ 64 → k ≤ r.«cap» → Sound r (with_newest r m b v k)
   with_sound vf small few =
       record {
         fits = with_fits vf (omega arith) (omega arith);
@@ -124,7 +124,7 @@ module _ (r : Ring) (m : List ℕ) (s : Sound r m) (v : ℕ) (free : count_of r 
       ∙ ap (λ x. x ∷ map (λ i. get_or w (place r b i) 0) (range_with_len 1 k)) first_is
       ∙ ap (λ xs. v ∷ xs) (same_counted (λ i. get_or w (place r b i) 0) (λ i. get_or m (place r n i) 0) 1 0 k others_kept ∙ sym (held_is r m refl refl))
 
-  is_grown : v < 2 ^ 64 → r.«cap» ≤ 2 ^ 40 → Pushed r v m (grown r m v)
+  is_grown : v < 2 ^ 64 → r.«cap» < 2 ^ 64 → Pushed r v m (grown r m v)
   is_grown vf small =
       let b = free_slot r m in
       let k = count_of r m + 1 in
@@ -135,5 +135,5 @@ module _ (r : Ring) (m : List ℕ) (s : Sound r m) (v : ℕ) (free : count_of r 
         long = with_long r m s b v k slot_near;
       }
 
-  pub is_pushed : {w : List ℕ} → w ≡ pushed r m v → v < 2 ^ 64 → r.«cap» ≤ 2 ^ 40 → Pushed r v m w
+  pub is_pushed : {w : List ℕ} → w ≡ pushed r m v → v < 2 ^ 64 → r.«cap» < 2 ^ 64 → Pushed r v m w
   is_pushed e vf small = subst (Pushed r v m) (sym (e ∙ pushed_free r m v newest_near free)) (is_grown vf small)

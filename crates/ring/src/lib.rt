@@ -1,11 +1,12 @@
 // A queue of numbers in lent memory: slots that are used as a ring, and two header words, the slot of the newest number and how many there are.
 // The numbers lie from the newest on to the oldest, past the last slot to the first again.
+// It is no `VecDeque`, since the keeper has no heap: all its memory is one lent slice.
 #![tactic(auto)]
 
-ghost use Rattle.std.specs.Prelude.{◌≡◌, ◌+◌, ◌^◌, ◌<◌, ◌≤◌, length};
-ghost use Rattle.ring.specs.Ring.{before, count_of, held, place};
+ghost use Rattle.std.specs.Prelude.{◌≡◌, ◌+◌, ◌<◌, ◌≤◌, length};
+ghost use Rattle.ring.specs.Ring.{before, count_of, held, wrap};
 
-use words::word;
+use words::word_after;
 
 mod ends;
 #[cfg(test)]
@@ -22,11 +23,10 @@ pub struct Ring {
 impl Ring {
     // How many numbers there are, as memory says it.
     pub fn count(self, memory: &[u64]) -> u64
-        requires { self.header ≤ 2 ^ 40 }
         ensures words { result ≡ count_of self memory.now }
         ensures long { result ≡ length (held self memory.now) }
     {
-        word(memory, self.header + 1)
+        word_after(memory, self.header, 1)
     }
 
     // The slot before another, and the last before the first.
@@ -38,16 +38,16 @@ impl Ring {
         if slot == 0 { self.cap - 1 } else { slot - 1 }
     }
 
-    // Where the number lies that is `after` places behind the newest, which is in the slot `newest`.
-    fn place(self, newest: usize, after: usize) -> usize
-        requires { (self.slots ≤ 2 ^ 40) × ((self.«cap» ≤ 2 ^ 40) × ((newest < self.«cap») × (after ≤ self.«cap»))) }
-        ensures value { result ≡ place self newest after }
+    // The slot of the number that is `after` places behind the newest, which is in the slot `newest`.
+    fn behind(self, newest: usize, after: usize) -> usize
+        requires { (newest < self.«cap») × (after ≤ self.«cap») }
+        ensures { result ≡ wrap self.«cap» (newest + after) }
     {
-        let slot = newest + after;
-        if slot < self.cap {
-            self.slots + slot
+        let left = self.cap - newest;
+        if after < left {
+            newest + after
         } else {
-            self.slots + (slot - self.cap)
+            after - left
         }
     }
 }

@@ -1,6 +1,8 @@
 -- Words cut from the front of a text. Assumes nothing.
-use Rattle.std.proofs.Common.{◌≡◌, ℕ, zero, suc, ◌<◌, ◌≤◌, Bool, true, false, eqb, ◌⊎◌, List, [], ◌∷◌, ◌++◌, length, get_or, take, drop, IsUtf8, sym, refl, ap, ◌∙◌, subst, inl, inr, ⊎_elim, append_assoc, append-nil, add-zero, arith, length-drop, get_or-drop}
+use Rattle.std.proofs.Common.{◌≡◌, ℕ, zero, suc, ◌<◌, ◌≤◌, Bool, true, false, not, eqb, ◌⊎◌, List, [], ◌∷◌, ◌++◌, length, get_or, take, drop, IsUtf8, sym, refl, ap, ◌∙◌, subst, inl, inr, ⊎_elim, append_assoc, append-nil, add-zero, arith, length-drop, get_or-drop}
 use Rattle.std.specs.Str.{IsCharBoundary}
+use Rattle.std.specs.List.{prefix_len, position_or_len}
+use Rattle.std.proofs.lemmas.List.Sums.{prefix_len-le-length, prefix_len_passes, prefix_len_stops, fails_before_first, passes_at_first}
 use Rattle.std.proofs.lemmas.List.{length-take-le, nil_from_length, take_all, drop_all}
 use Rattle.std.proofs.lemmas.Bool.{cond-true, cond-false, cases_lt, ne_eqb, eqb-true, or_cases}
 use Rattle.std.proofs.lemmas.Str.{IsCharBoundary-start, IsCharBoundary-end, IsCharBoundary-before_ascii, IsCharBoundary-after_ascii}
@@ -43,11 +45,13 @@ ended w (b ∷ bs) stops =
 pub record Run (wanted : Bool) (bs : List ℕ) (n : ℕ) : Type 0 where
   pub within : n ≤ length bs
   pub all : (i : ℕ) → i < n → blank (get_or bs i 0) ≡ wanted
-  pub stops : n < length bs → blank (get_or bs n 0) ≡ wanted → ⊥
+  pub stops : n < length bs → blank (get_or bs n 0) ≡ not wanted
 
-turned : (b : Bool) → (b ≡ false → ⊥) → b ≡ true
-turned true h = refl
-turned false h = absurd (h refl)
+pub gap : (bs : List ℕ) → Run true bs (prefix_len blank bs)
+gap bs = record { within = prefix_len-le-length blank bs; all = λ i less. prefix_len_passes blank bs i 0 less; stops = prefix_len_stops blank bs 0 }
+
+pub solid : (bs : List ℕ) → Run false bs (position_or_len blank bs)
+solid bs = record { within = prefix_len-le-length (λ b. not (blank b)) bs; all = λ i less. fails_before_first blank bs i 0 less; stops = passes_at_first blank bs 0 }
 
 blank_low : (b : ℕ) → blank b ≡ true → b < 128
 blank_low b h = ⊎_elim (λ e. omega (arith, eqb-true b 32 e)) (λ e. omega (arith, eqb-true b 9 e)) (or_cases (eqb b 32) (eqb b 9) h)
@@ -58,7 +62,7 @@ run_cut true bs zero text run = IsCharBoundary-start bs text
 run_cut true bs (suc n) text run = let within = run.within in
     subst (IsCharBoundary bs) (omega arith) (IsCharBoundary-after_ascii bs n text (omega arith) (blank_low _ (run.all n (omega arith))))
 run_cut false bs n text run =
-    ⊎_elim (λ less. IsCharBoundary-before_ascii bs n less (blank_low _ (turned _ (run.stops less))))
+    ⊎_elim (λ less. IsCharBoundary-before_ascii bs n less (blank_low _ (run.stops less)))
     (λ more. let within = run.within in subst (IsCharBoundary bs) (omega arith) (IsCharBoundary-end bs)) (cases_lt n (length bs))
 
 first_at : (n : ℕ) (bs : List ℕ) → get_or (drop n bs) 0 0 ≡ get_or bs n 0
@@ -67,7 +71,7 @@ first_at n bs = get_or-drop n bs 0 0 ∙ ap (λ i. get_or bs i 0) (add-zero n)
 first_word : (n : ℕ) (bs : List ℕ) → Run false bs n → words bs ≡ kept (take n bs) (words (drop n bs))
 first_word n bs run =
     through [] n bs run.within run.all
-    ∙ ended (take n bs) (drop n bs) (λ more. ap blank (first_at n bs) ∙ turned _ (run.stops (omega (arith, length-drop n bs))))
+    ∙ ended (take n bs) (drop n bs) (λ more. ap blank (first_at n bs) ∙ run.stops (omega (arith, length-drop n bs)))
 
 -- past the blanks comes the text, which begins with the word
 module _ (rest text word after : List ℕ) (n k : ℕ) (gap : Run true rest n) (from : text ≡ drop n rest) (run : Run false text k) (front : word ≡ take k text) (back : after ≡ drop k text) where
@@ -83,8 +87,9 @@ module _ (rest text word after : List ℕ) (n k : ℕ) (gap : Run true rest n) (
       empty : (0 < length text) ⊎ (length text ≤ 0) → length text ≡ 0
       empty (inl more) =
           let long = ap length from ∙ length-drop n rest in
-          let here = subst (λ i. i < length text → blank (get_or text i 0) ≡ false → ⊥) short run.stops in
-          absurd (gap.stops (omega arith) (sym (ap blank (ap (λ l. get_or l 0 0) from ∙ first_at n rest)) ∙ turned _ (here more)))
+          let here = subst (λ i. i < length text → blank (get_or text i 0) ≡ true) short run.stops more in
+          let also = ap blank (ap (λ l. get_or l 0 0) from ∙ first_at n rest) ∙ gap.stops (omega arith) in
+          let clash : true ≡ false = cc in absurd (cc)
       empty (inr none) = omega arith
 
   pub one_word : 0 < length word → words rest ≡ word ∷ words after

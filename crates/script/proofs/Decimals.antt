@@ -20,19 +20,19 @@ digit n i small less = digit_at (decimal n) i (digits_decimal own n small) less
 pub first_digit : (n : ℕ) → n < 2 ^ 64 → IsInRange 48 57 (get_or (decimal n) 0 0)
 first_digit n small = digit n 0 small (decimal_nonempty n small)
 
--- a word that does not begin with a digit from 1 to 9, and is not `0`, writes no number
-module _ (w : List ℕ) (other : w ≡ 48 ∷ [] → ⊥) (n : ℕ) (small : n < 2 ^ 64) (e : w ≡ decimal n) where
-  some : 0 < n
-  some = ⊎_elim (λ h. h) (λ h. let none : n ≡ 0 = omega arith in absurd (other (e ∙ ap decimal none ∙ zero_text))) (order 0 n)
+-- a word that writes a number begins with a digit, which is 0 in `0` alone
+pub numeral : (w : List ℕ) (n : ℕ) → n < 2 ^ 64 → w ≡ decimal n → (0 < length w) × (48 ≤ get_or w 0 0) × (get_or w 0 0 ≤ 57) × (get_or w 0 0 ≡ 48 → length w ≡ 1)
+numeral w n small e =
+    let long = decimal_nonempty n small in
+    let digit = first_digit n small in
+    let same = ap length e in
+    let first = ap (λ l. get_or l 0 0) e in
+    (omega arith, omega arith, omega arith, λ zero. ⊎_elim (λ some. let high = first_decimal n some small in absurd (omega arith)) (λ none. let is : n ≡ 0 = omega arith in same ∙ ap length (ap decimal is ∙ zero_text)) (order 0 n))
 
-  pub not_empty : length w ≡ 0 → ⊥
-  not_empty h = let long = decimal_nonempty n small in let same = ap length e in omega arith
-
-  pub not_low : get_or w 0 0 < 49 → ⊥
-  not_low h = let high = first_decimal n some small in let same = ap (λ l. get_or l 0 0) e in omega arith
-
-  pub not_high : 57 < get_or w 0 0 → ⊥
-  not_high h = let low = first_digit n small in let same = ap (λ l. get_or l 0 0) e in omega arith
+pub zero_numeral : (w : List ℕ) → length w ≡ 1 → get_or w 0 0 ≡ 48 → w ≡ decimal 0
+zero_numeral [] one zero = absurd (omega arith)
+zero_numeral (b ∷ []) one zero = ap (λ c. c ∷ []) zero ∙ sym zero_text
+zero_numeral (b ∷ c ∷ w) one zero = absurd (omega arith)
 
 -- what `parse` reads of a word that begins with a digit from 1 on
 pub parsed : {E : Type 0} (w : List ℕ) (r : Result ℕ E) → ParsesUnsigned 64 10 w r → 49 ≤ get_or w 0 0 → IsNumber (2 ^ 64) w (result_ok r)

@@ -1,47 +1,53 @@
 -- Numbers taken one by one from the words of a line. Assumes nothing.
-use Rattle.std.proofs.Common.{◌≡◌, ℕ, ◌^◌, ◌<◌, ◌⊎◌, List, [], ◌∷◌, ◌++◌, map, length, get_or, codes, decimal, sym, ap, ◌∙◌, subst, inl, inr, ⊎_elim, append_assoc, arith}
-use Rattle.std.proofs.lemmas.List.{map_push, length_push}
-use Rattle.script.specs.Reading.{Below, SomeBelow, classes_words}
+use Rattle.std.proofs.Common.{◌≡◌, ◌≢◌, ℕ, ◌^◌, ◌<◌, List, [], ◌∷◌, ◌++◌, map, length, get_or, vec_items, Vec, Global, codes, decimal, Result, sym, ap, ◌∙◌, subst, append_assoc, arith}
+use Rattle.std.proofs.lemmas.List.{map_push, map-id}
+use Rattle.script.specs.declared.expected.Expected.{Expected}
+use Rattle.script.proofs.Blamed.{blames}
+use Rattle.script.specs.Reading.{BeginsWithNoNumber, Blames, Below, SomeBelow, Takes, classes_words}
 use Rattle.script.proofs.Decimals.{first_digit}
 
 below_more : (limit : ℕ) (ns : List ℕ) (n : ℕ) → Below limit ns → n < limit → Below limit (ns ++ (n ∷ []))
 below_more limit [] n all less = (less, tt)
 below_more limit (m ∷ ns) n all less = (all.0, below_more limit ns n all.1 less)
 
--- ns are the numbers taken so far of all the words, and left are the words that are left
-pub record Sofar (limit : ℕ) (all : List (List ℕ)) (ns : List ℕ) (left : List (List ℕ)) : Type 0 where
-  pub same : all ≡ map decimal ns ++ left
-  pub some : SomeBelow limit ns
-
-pub one_more : (limit : ℕ) (all : List (List ℕ)) (ns : List ℕ) (left : List (List ℕ)) (w : List ℕ) (after : List (List ℕ)) (n : ℕ) (more : List ℕ) → Sofar limit all ns left → left ≡ w ∷ after → w ≡ decimal n → n < limit → more ≡ ns ++ (n ∷ []) → Sofar limit all more after
-one_more limit all ns left w after n more old next is less push = subst (λ l. Sofar limit all l after) (sym push) (record {
-  same = old.same ∙ ap (λ l. map decimal ns ++ l) (next ∙ ap (λ v. v ∷ after) is) ∙ sym (append_assoc (map decimal ns) (decimal n ∷ []) after) ∙ ap (λ l. l ++ after) (sym (map_push decimal ns n));
-  some = (omega (arith, length_push ns n), below_more limit ns n old.some.1 less);
-})
-
--- a word among numbers is a number
-pub is_number : (limit : ℕ) (ns : List ℕ) (w : List ℕ) (after : List (List ℕ)) (ms : List ℕ) → Below limit ms → map decimal ns ++ (w ∷ after) ≡ map decimal ms → (n : ℕ) × (n < limit) × (w ≡ decimal n)
-is_number limit [] w after [] all is = absurd (omega (arith, ap length is))
-is_number limit [] w after (m ∷ ms) all is = let head : w ≡ decimal m = cc in (m, all.0, head)
-is_number limit (n ∷ ns) w after [] all is = absurd (omega (arith, ap length is))
-is_number limit (n ∷ ns) w after (m ∷ ms) all is = let tail : map decimal ns ++ (w ∷ after) ≡ map decimal ms = cc in is_number limit ns w after ms all.1 tail
-
 rests_no_number : (n : ℕ) → n < 2 ^ 64 → decimal n ≡ codes "rests" → ⊥
 rests_no_number n small is = let digit = first_digit n small in let first = ap (λ l. get_or l 0 0) is in omega arith
 
--- a word among classes is a number, or the word that ends them
-pub is_class : (ns : List ℕ) (w : List ℕ) (after : List (List ℕ)) (ms : List ℕ) (rest : List (List ℕ)) → Below (2 ^ 64) ns → Below (2 ^ 64) ms → map decimal ns ++ (w ∷ after) ≡ classes_words ms ++ rest → (w ≡ codes "rests") ⊎ ((n : ℕ) × (n < 2 ^ 64) × (w ≡ decimal n))
-is_class [] w after [] rest low all is = let head : w ≡ codes "rests" = cc in inl head
-is_class [] w after (m ∷ ms) rest low all is = let head : w ≡ decimal m = cc in inr (m, all.0, head)
-is_class (n ∷ ns) w after [] rest low all is = let head : decimal n ≡ codes "rests" = cc in absurd (rests_no_number n low.0 head)
-is_class (n ∷ ns) w after (m ∷ ms) rest low all is = let tail : map decimal ns ++ (w ∷ after) ≡ classes_words ms ++ rest = cc in is_class ns w after ms rest low.1 all.1 tail
+-- ns are the numbers taken so far of all the words, and left are the words that are left
+pub record Sofar (limit : ℕ) (all : List (List ℕ)) (ns : List ℕ) (left : List (List ℕ)) : Type 0 where
+  pub same : all ≡ map decimal ns ++ left
+  pub below : Below limit ns
 
--- classes end with a word that is no number
-pub ends_classes : (ns ms : List ℕ) (rest : List (List ℕ)) → Below (2 ^ 64) ns → map decimal ns ++ [] ≡ classes_words ms ++ rest → ⊥
-ends_classes [] [] rest low is = omega (arith, ap length is)
-ends_classes [] (m ∷ ms) rest low is = omega (arith, ap length is)
-ends_classes (n ∷ ns) [] rest low is = let head : decimal n ≡ codes "rests" = cc in rests_no_number n low.0 head
-ends_classes (n ∷ ns) (m ∷ ms) rest low is = let tail : map decimal ns ++ [] ≡ classes_words ms ++ rest = cc in ends_classes ns ms rest low.1 tail
+-- one more value, which is the next number
+pub one_more : {X : Type 0} (value : X → ℕ) (limit : ℕ) (all : List (List ℕ)) (xs : List X) (left : List (List ℕ)) (x : X) (after : List (List ℕ)) (more : List X) → Sofar limit all (map value xs) left → left ≡ decimal (value x) ∷ after → value x < limit → more ≡ xs ++ (x ∷ []) → Sofar limit all (map value more) after
+one_more value limit all xs left x after more old next less push =
+    let longer : map value more ≡ map value xs ++ (value x ∷ []) = ap (map value) push ∙ map_push value xs x in
+    subst (λ l. Sofar limit all l after) (sym longer) (record {
+      same = old.same ∙ ap (λ l. map decimal (map value xs) ++ l) next ∙ sym (append_assoc (map decimal (map value xs)) (decimal (value x) ∷ []) after) ∙ ap (λ l. l ++ after) (sym (map_push decimal (map value xs) (value x)));
+      below = below_more limit (map value xs) (value x) old.below less;
+    })
+
+-- what is said of the numbers of values, where the values are numbers
+pub plain : (limit : ℕ) (before after : List (List ℕ)) (r : Result (Vec ℕ Global) Expected) → Takes (λ v. SomeBelow limit (map (λ n. n) (vec_items v))) (λ v. map decimal (map (λ n. n) (vec_items v))) before after r → Takes (λ v. SomeBelow limit (vec_items v)) (λ v. map decimal (vec_items v)) before after r
+plain limit before after r = subst (λ (f : List ℕ → List ℕ). Takes (λ (v : Vec ℕ Global). SomeBelow limit (f (vec_items v))) (λ v. map decimal (f (vec_items v))) before after r) (λ i ns. map-id ns i)
+
+-- numbers are followed by no other number
+pub all_taken : (limit : ℕ) (ns : List ℕ) (left : List (List ℕ)) (ms : List ℕ) → BeginsWithNoNumber limit left → Below limit ms → map decimal ns ++ left ≡ map decimal ms → left ≡ []
+all_taken limit [] left [] none low is = is
+all_taken limit [] left (m ∷ ms) none low is = absurd (none m (map decimal ms) low.0 is)
+all_taken limit (n ∷ ns) left [] none low is = absurd (omega (arith, ap length is))
+all_taken limit (n ∷ ns) left (m ∷ ms) none low is = let tail : map decimal ns ++ left ≡ map decimal ms = cc in all_taken limit ns left ms none low.1 tail
+
+-- classes are followed by the word that ends them
+pub classes_end : (all left after : List (List ℕ)) (ns : List ℕ) (w : List ℕ) → all ≡ map decimal ns ++ left → left ≡ w ∷ after → w ≡ codes "rests" → all ≡ classes_words ns ++ after
+classes_end all left after ns w taken next ends = taken ∙ ap (λ l. map decimal ns ++ l) (next ∙ ap (λ v. v ∷ after) ends) ∙ sym (append_assoc (map decimal ns) (codes "rests" ∷ []) after)
+
+-- no number and no end follow: the words are no classes
+pub no_end : (ns : List ℕ) (left : List (List ℕ)) (ms : List ℕ) (rest : List (List ℕ)) → BeginsWithNoNumber (2 ^ 64) left → ((after : List (List ℕ)) → left ≡ codes "rests" ∷ after → ⊥) → Below (2 ^ 64) ns → Below (2 ^ 64) ms → map decimal ns ++ left ≡ classes_words ms ++ rest → ⊥
+no_end [] left [] rest none ends low all is = ends rest is
+no_end [] left (m ∷ ms) rest none ends low all is = none m _ all.0 is
+no_end (n ∷ ns) left [] rest none ends low all is = let head : decimal n ≡ codes "rests" = cc in rests_no_number n low.0 head
+no_end (n ∷ ns) left (m ∷ ms) rest none ends low all is = let tail : map decimal ns ++ left ≡ classes_words ms ++ rest = cc in no_end ns left ms rest none ends low.1 all.1 tail
 
 -- two lists of classes before the same word have the same words after it
 pub same_after : (ns ms : List ℕ) (after rest : List (List ℕ)) → Below (2 ^ 64) ns → Below (2 ^ 64) ms → classes_words ns ++ after ≡ classes_words ms ++ rest → after ≡ rest
@@ -51,33 +57,16 @@ same_after (n ∷ ns) [] after rest low all is = let head : decimal n ≡ codes 
 same_after (n ∷ ns) (m ∷ ms) after rest low all is = let tail : classes_words ns ++ after ≡ classes_words ms ++ rest = cc in same_after ns ms after rest low.1 all.1 tail
 
 -- where no number begins the words, there is no list of numbers
-pub no_numbers : (limit : ℕ) (ws : List (List ℕ)) (ns : List ℕ) → ((n : ℕ) (rest : List (List ℕ)) → n < limit → ws ≡ decimal n ∷ rest → ⊥) → SomeBelow limit ns → ws ≡ map decimal ns → ⊥
-no_numbers limit ws [] none some is = omega arith
-no_numbers limit ws (n ∷ ns) none some is = none n _ some.1.0 is
+pub no_numbers : (limit : ℕ) (ws : List (List ℕ)) (ns : List ℕ) (rest : List (List ℕ)) → BeginsWithNoNumber limit ws → SomeBelow limit ns → ws ≡ map decimal ns ++ rest → ⊥
+no_numbers limit ws [] rest none some is = omega arith
+no_numbers limit ws (n ∷ ns) rest none some is = none n _ some.1.0 is
 
-pub no_classes : (ws : List (List ℕ)) (ns : List ℕ) (rest : List (List ℕ)) → ((n : ℕ) (rest : List (List ℕ)) → n < 2 ^ 64 → ws ≡ decimal n ∷ rest → ⊥) → SomeBelow (2 ^ 64) ns → ws ≡ classes_words ns ++ rest → ⊥
-no_classes ws [] rest none some is = omega arith
-no_classes ws (n ∷ ns) rest none some is = none n _ some.1.0 is
-
--- the first number, in a list of its own
-pub begun : (all rest : List (List ℕ)) (n : ℕ) (none one : List ℕ) → all ≡ decimal n ∷ rest → none ≡ [] → one ≡ none ++ (n ∷ []) → all ≡ map decimal one ++ rest
-begun all rest n none one is empty push = is ∙ sym (ap (λ l. map decimal l ++ rest) (push ∙ ap (λ l. l ++ (n ∷ [])) empty))
-
--- a word that follows the numbers so far, of a list of numbers or of classes
-module _ {limit : ℕ} {first all left after : List (List ℕ)} {ns : List ℕ} {w : List ℕ} (start : first ≡ all) (sofar : Sofar limit all ns left) (next : left ≡ w ∷ after) where
-  pub next_number : (ms : List ℕ) → Below limit ms → first ≡ map decimal ms → (n : ℕ) × (n < limit) × (w ≡ decimal n)
-  next_number ms low is = is_number limit ns w after ms low (sym (start ∙ sofar.same ∙ ap (λ l. map decimal ns ++ l) next) ∙ is)
-
-  pub classes_end : w ≡ codes "rests" → first ≡ classes_words ns ++ after
-  classes_end ends = start ∙ sofar.same ∙ ap (λ l. map decimal ns ++ l) (next ∙ ap (λ v. v ∷ after) ends) ∙ sym (append_assoc (map decimal ns) (codes "rests" ∷ []) after)
-
-pub next_class : (first all left after : List (List ℕ)) (ns ms : List ℕ) (w : List ℕ) (rest : List (List ℕ)) → first ≡ all → Sofar (2 ^ 64) all ns left → left ≡ w ∷ after → Below (2 ^ 64) ms → first ≡ classes_words ms ++ rest → (w ≡ codes "rests" → ⊥) → ((n : ℕ) → n < 2 ^ 64 → w ≡ decimal n → ⊥) → ⊥
-next_class first all left after ns ms w rest start sofar next low is no_end no_number =
-    ⊎_elim no_end (λ found. no_number found.0 found.1 found.2)
-    (is_class ns w after ms rest sofar.some.1 low (sym (start ∙ sofar.same ∙ ap (λ l. map decimal ns ++ l) next) ∙ is))
-
-pub no_end_yet : (first all left : List (List ℕ)) (ns ms : List ℕ) (rest : List (List ℕ)) → first ≡ all → Sofar (2 ^ 64) all ns left → left ≡ [] → first ≡ classes_words ms ++ rest → ⊥
-no_end_yet first all left ns ms rest start sofar none is = ends_classes ns ms rest sofar.some.1 (sym (start ∙ sofar.same ∙ ap (λ l. map decimal ns ++ l) none) ∙ is)
+-- nothing was taken, and so no list of numbers begins the words
+pub no_values : {X : Type 0} (value : X → ℕ) (limit : ℕ) (all : List (List ℕ)) (xs : List X) (left : List (List ℕ)) (e : Expected) → Sofar limit all (map value xs) left → length xs ≡ 0 → BeginsWithNoNumber limit left → Blames e ((v : Vec X Global) (rest : List (List ℕ)) → SomeBelow limit (map value v.items) → all ≢ map decimal (map value v.items) ++ rest)
+no_values {X} value limit all [] left e sofar empty none =
+    let told : (v : Vec X Global) (rest : List (List ℕ)) → SomeBelow limit (map value v.items) → all ≢ map decimal (map value v.items) ++ rest = λ v rest some is. no_numbers limit left (map value v.items) rest none some (sym sofar.same ∙ is) in
+    blames e told
+no_values value limit all (x ∷ xs) left e sofar empty none = absurd (omega arith)
 
 -- what follows the same first word
 pub tails : {x y : List ℕ} {all xs ys : List (List ℕ)} → all ≡ x ∷ xs → all ≡ y ∷ ys → xs ≡ ys

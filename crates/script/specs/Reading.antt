@@ -1,9 +1,11 @@
 -- What reading gives. Assumes nothing: these are definitions.
---     IsNumber limit w r    r is the number below the limit that the word w writes in decimal, or w writes none
+--     Writes value limit w r          r is the value whose number is below the limit, and which the word w writes in decimal, or w writes none
+--     IsNumber limit w r    the same of a number itself
 --     event_words e, line_words l     the words of an event, and of a line
 --     classes_words ns      an opening's classes, and the word that ends them
 --     opening_words o       the words of an opening, after `open`
 --     Below limit ns        each of the numbers ns is below the limit; SomeBelow limit ns: and there is one
+--     BeginsWithNoNumber limit ws     the first of the words ws, if there is one, writes no number below the limit
 --     FitsEvent e, FitsOpening o, FitsLine l        a script can have it: its numbers and bytes are in range, there is a class or a byte where one
 --                           is wanted, and it is no event that stands for bytes that are none
 --     Blames e P            e says that memory was wanting, or else P holds
@@ -19,8 +21,11 @@ use Rattle.script.specs.declared.opening.Opening.{Opening}
 use Rattle.grounds.specs.declared.event.Event.{Event}
 use Rattle.grounds.specs.declared.event.Event.TheVariants.{Get, Give, Size, Look, Garbled}
 
+abbrev pub Writes : {X : Type 0} → (X → ℕ) → ℕ → List ℕ → Option X → Type 0
+Writes value limit w r = MatchOption r ((n : ℕ) → n < limit → w ≢ decimal n) (λ x. (value x < limit) × (w ≡ decimal (value x)))
+
 abbrev pub IsNumber : ℕ → List ℕ → Option ℕ → Type 0
-IsNumber limit w r = MatchOption r ((n : ℕ) → n < limit → w ≢ decimal n) (λ n. (n < limit) × (w ≡ decimal n))
+IsNumber = Writes (λ n. n)
 
 abbrev pub event_words : Event → List (List ℕ)
 event_words (Get n) = codes "get" ∷ decimal n ∷ []
@@ -54,6 +59,9 @@ Below limit (n ∷ ns) = (n < limit) × Below limit ns
 
 abbrev pub SomeBelow : ℕ → List ℕ → Type 0
 SomeBelow limit ns = (0 < length ns) × Below limit ns
+
+abbrev pub BeginsWithNoNumber : ℕ → List (List ℕ) → Type 0
+BeginsWithNoNumber limit ws = (n : ℕ) (rest : List (List ℕ)) → n < limit → ws ≢ decimal n ∷ rest
 
 pub record FitsOpening (o : Opening) : Type 0 where
   pub pages : o.pages < 2 ^ 64

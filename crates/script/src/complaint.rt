@@ -19,10 +19,12 @@ impl fmt::Display for Complaint<'_> {
     ghost output = { λ c. Some (complaint_text c) };
 
     fn fmt<W: fmt::Write>(&self, f: &mut fmt::Formatter<W>) -> fmt::Result {
-        let file = self.file;
-        let line = self.line;
-        let expected = self.expected;
-        let text = self.text;
+        let Complaint {
+            file,
+            line,
+            expected,
+            text,
+        } = *self;
         write!(f, "{file}:{line}: {expected}, in: {text}")
     }
 }

@@ -5,9 +5,10 @@ ghost use Rattle.std.specs.Prelude.{◌≡◌, Some};
 
 use crate::keyword::Keyword;
 use std::alloc::{AllocError, AllocFailed};
+use std::error::Error;
 use std::fmt;
 
-#[derive(Clone, Copy, Debug, PartialEq)]
+#[derive(Clone, Copy, Debug, PartialEq, Eq)]
 pub enum Expected {
     // one of the words that begin a line
     Command,
@@ -22,6 +23,7 @@ pub enum Expected {
     Memory,
 }
 
+// Written out, since a derived `Display` does not state its text.
 impl fmt::Display for Expected {
     ghost output = { λ e. Some (expected_text e) };
 
@@ -37,16 +39,16 @@ impl fmt::Display for Expected {
                 f,
                 "expected a class in decimal with no leading zeros, or the word rests"
             ),
-            Expected::Word(keyword) => {
-                let word = keyword.text();
-                write!(f, "expected the word {word}")
-            }
+            Expected::Word(keyword) => write!(f, "expected the word {keyword}"),
             Expected::End => write!(f, "expected the end of the line"),
             Expected::Memory => write!(f, "expected more memory than there is"),
         }
     }
 }
 
+impl Error for Expected {}
+
+// Written out, since a derived conversion does not state which error it makes.
 impl From<AllocError> for Expected {
     ghost from_gives = { λ _ r. r ≡ Memory };
 

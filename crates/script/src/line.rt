@@ -1,13 +1,12 @@
 // A line of a script, its text and how it is read.
 ghost use Rattle.script.specs.Reading.{FitsEvent, FitsLine, Reads, SomeBelow, line_words};
 ghost use Rattle.script.specs.Texts.{line_text};
-ghost use Rattle.script.specs.Words.{code, left, words};
+ghost use Rattle.script.specs.Words.{code, words};
 ghost use Rattle.std.specs.Prelude.{◌≡◌, ◌∷◌, map, Some, codes, decimal, MatchResult};
 
 use crate::event::read_event;
 use crate::expected::Expected;
 use crate::in_words::InWords;
-use crate::number::byte;
 use crate::opening::{Opening, read_opening};
 use crate::spaced::Spaced;
 use crate::words::Words;
@@ -15,7 +14,7 @@ use grounds::event::Event;
 use std::alloc::Global;
 use std::fmt;
 
-#[derive(Drop)]
+#[derive(Debug, PartialEq, Eq, Drop)]
 pub enum Line {
     // blanks, a comment or both
     Nothing,
@@ -46,24 +45,20 @@ impl fmt::Display for Line {
 
 // One byte or more, up to the end of the line.
 fn read_bytes(heap: Global, mut words: Words<'_>) -> Result<Vec<u8>, Expected>
-    ensures { Reads (λ v. SomeBelow 256 v.items) (λ v. map decimal v.items) (left words.entry) result }
+    ensures { Reads (λ v. SomeBelow 256 v.items) (λ v. map decimal v.items) words.entry result }
 {
-    let mut bytes = Vec::new(heap);
-    bytes.push(words.take_byte()?)?;
-    while let Some(word) = words.next_word() {
-        let Some(next) = byte(word) else {
-            return Err(Expected::Byte);
-        };
-        bytes.push(next)?;
+    let bytes = words.take_numbers(heap)?;
+    match words.next_word() {
+        None => Ok(bytes),
+        Some(_) => Err(Expected::Byte),
     }
-    Ok(bytes)
 }
 
 // What is written where, read from the words after `write`.
 fn read_write(heap: Global, mut words: Words<'_>) -> Result<Line, Expected>
-    ensures { Reads FitsLine line_words (codes "write" ∷ left words.entry) result }
+    ensures { Reads FitsLine line_words (codes "write" ∷ words.entry) result }
 {
-    let place = words.take_number()?;
+    let place = words.take()?;
     let bytes = read_bytes(heap, words)?;
     Ok(Line::Write(place, bytes))
 }
@@ -72,13 +67,11 @@ pub fn read_line(heap: Global, text: &str) -> Result<Line, Expected>
     ensures { Reads FitsLine line_words (words (code text.now)) result }
 {
     let mut words = Words::of(text);
-    let Some(command) = words.next_word() else {
-        return Ok(Line::Nothing);
-    };
-    match command {
-        "open" => Ok(Line::Open(read_opening(heap, words)?)),
-        "write" => read_write(heap, words),
-        _ => Ok(Line::Ask(read_event(command, words)?)),
+    match words.next_word() {
+        None => Ok(Line::Nothing),
+        Some("open") => Ok(Line::Open(read_opening(heap, words)?)),
+        Some("write") => read_write(heap, words),
+        Some(command) => Ok(Line::Ask(read_event(command, words)?)),
     }
 }
 

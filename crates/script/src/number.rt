@@ -1,25 +1,50 @@
-// Numbers and bytes, read from a word: in decimal, with no sign and no leading zeros.
-ghost use Rattle.std.specs.Prelude.{◌≡◌, ◌^◌};
-ghost use Rattle.script.specs.Reading.{IsNumber};
+// Numbers, read from a word: in decimal, with no sign and no leading zeros.
+ghost use Rattle.std.specs.Prelude.{ℕ, ◌^◌};
+ghost use Rattle.script.specs.Reading.{Writes};
 
-// What the word writes, if that is a number below 2^64.
-pub fn number(word: &str) -> Option<u64>
-    ensures { IsNumber (2 ^ 64) word.now result }
-{
-    if word == "0" {
-        return Some(0);
-    }
-    let bytes = word.as_bytes();
-    // `parse` alone would take a plus sign and leading zeros.
-    if bytes.is_empty() || bytes[0] < b'1' || bytes[0] > b'9' {
-        return None;
-    }
-    word.parse::<u64>().ok()
+use crate::expected::Expected;
+
+// A type of numbers that words write.
+pub trait Decimal: Copy {
+    // The numbers of the type are those below it.
+    ghost limit: { ℕ };
+
+    ghost value: { Self → ℕ };
+
+    // What is expected where no such number stands.
+    const EXPECTED: Expected;
+
+    // What the word writes, if that is such a number.
+    fn read(word: &str) -> Option<Self>
+        ensures { Writes value limit word.now result };
 }
 
-// What the word writes, if that is a byte.
-pub fn byte(word: &str) -> Option<u8>
-    ensures { IsNumber 256 word.now result }
-{
-    u8::try_from(number(word)?).ok()
+impl Decimal for u64 {
+    ghost limit = { 2 ^ 64 };
+
+    ghost value = { λ n. n };
+
+    const EXPECTED: Expected = Expected::Number;
+
+    #[tactic(auto, using(crate::proofs::Decimals::numeral, crate::proofs::Decimals::zero_numeral))]
+    fn read(word: &str) -> Option<u64> {
+        match word.as_bytes() {
+            // `parse` alone would take a plus sign and leading zeros.
+            [b'1'..=b'9', ..] => word.parse::<u64>().ok(),
+            [b'0'] => Some(0),
+            _ => None,
+        }
+    }
+}
+
+impl Decimal for u8 {
+    ghost limit = { 256 };
+
+    ghost value = { λ n. n };
+
+    const EXPECTED: Expected = Expected::Byte;
+
+    fn read(word: &str) -> Option<u8> {
+        u8::try_from(u64::read(word)?).ok()
+    }
 }

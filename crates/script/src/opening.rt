@@ -2,17 +2,17 @@
 ghost use Rattle.std.specs.Prelude.{◌^◌, Some};
 ghost use Rattle.script.specs.Reading.{FitsOpening, Reads, SomeBelow, Takes, classes_words, opening_words};
 ghost use Rattle.script.specs.Texts.{opening_text};
-ghost use Rattle.script.specs.Words.{left};
 
 use crate::expected::Expected;
 use crate::keyword::Keyword;
-use crate::number::number;
 use crate::spaced::Spaced;
 use crate::words::Words;
+use grounds::numbers::MARK_LEN;
 use std::alloc::Global;
 use std::fmt;
 
-#[derive(Drop)]
+// It has the fields of the limits of a ground, and owns its classes, which those lend.
+#[derive(Debug, PartialEq, Eq, Drop)]
 pub struct Opening {
     pub pages: u64,
     // how large the pieces of each class are
@@ -20,7 +20,7 @@ pub struct Opening {
     // how many pieces rest
     pub rests: u64,
     // the bytes that marks are made of
-    pub marks: [u8; 2],
+    pub marks: [u8; MARK_LEN],
 }
 
 impl fmt::Display for Opening {
@@ -40,34 +40,27 @@ impl fmt::Display for Opening {
 
 // One class or more, and the word that ends them.
 fn take_classes(heap: Global, words: &mut Words<'_>) -> Result<Vec<u64>, Expected>
-    ensures { Takes (λ v. SomeBelow (2 ^ 64) v.items) (λ v. classes_words v.items) (left words.old) (left words.new) result }
+    ensures { Takes (λ v. SomeBelow (2 ^ 64) v.items) (λ v. classes_words v.items) words.old words.new result }
 {
-    let mut classes = Vec::new(heap);
-    classes.push(words.take_number()?)?;
-    while let Some(word) = words.next_word() {
-        if word == "rests" {
-            return Ok(classes);
-        }
-        let Some(class) = number(word) else {
-            return Err(Expected::Class);
-        };
-        classes.push(class)?;
+    let classes = words.take_numbers(heap)?;
+    match words.next_word() {
+        Some(word) if word == Keyword::Rests.text() => Ok(classes),
+        _ => Err(Expected::Class),
     }
-    Err(Expected::Class)
 }
 
 // An opening, read from the words after `open`.
 pub fn read_opening(heap: Global, mut words: Words<'_>) -> Result<Opening, Expected>
-    ensures { Reads FitsOpening opening_words (left words.entry) result }
+    ensures { Reads FitsOpening opening_words words.entry result }
 {
     words.take_keyword(Keyword::Pages)?;
-    let pages = words.take_number()?;
+    let pages = words.take()?;
     words.take_keyword(Keyword::Classes)?;
     let classes = take_classes(heap, &mut words)?;
-    let rests = words.take_number()?;
+    let rests = words.take()?;
     words.take_keyword(Keyword::Marks)?;
-    let first = words.take_byte()?;
-    let second = words.take_byte()?;
+    let first = words.take()?;
+    let second = words.take()?;
     words.end()?;
     Ok(Opening {
         pages,

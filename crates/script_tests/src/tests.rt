@@ -12,10 +12,7 @@ use std::test::Fail;
 
 // A line is read and printed as another text.
 fn prints(rt: &impl Abort, heap: Global, text: &str, wanted: &str) -> Result<(), Fail> {
-    let Ok(line) = read_line(heap, text) else {
-        assert!(rt; false, "{text}: it is not read");
-        return Ok(());
-    };
+    let line = read_line(heap, text).expect(rt, text);
     let printed = format!(in heap; "{line}")?;
     assert!(rt; printed.as_str() == wanted, "{text}");
     Ok(())
@@ -45,10 +42,7 @@ fn reads(rt: HostRuntime) -> Result<(), Fail> {
 
 // A line is refused, and something else is expected.
 fn refuses(rt: &impl Abort, heap: Global, text: &str, wanted: Expected) {
-    match read_line(heap, text) {
-        Ok(_) => assert!(rt; false, "{text}: it is read"),
-        Err(expected) => assert_eq!(rt; expected, wanted, "{text}"),
-    }
+    assert_eq!(rt; read_line(heap, text), Err(wanted), "{text}");
 }
 
 #[test]
@@ -80,13 +74,9 @@ fn refuses_others(rt: HostRuntime) {
 
 #[test]
 fn comes_back(rt: HostRuntime) -> Result<(), Fail> {
-    match read_back(rt.alloc(), Event::Give(1024))? {
-        Line::Ask(event) => {
-            assert!(rt; event == Event::Give(1024));
-            Ok(())
-        },
-        _ => Err(Fail::new("another line")),
-    }
+    let line = read_back(rt.alloc(), Event::Give(1024))?;
+    assert_eq!(rt; line, Line::Ask(Event::Give(1024)));
+    Ok(())
 }
 
 #[test]

@@ -1,6 +1,6 @@
 -- The lowest unit that is free, told by the first of the four words that has a clear bit, and by `first` over the units.
-use Rattle.std.proofs.Common.{◌≡◌, ℕ, ◌+◌, ◌-◌, ◌*◌, ◌/◌, ◌%◌, ◌<◌, ◌≤◌, true, false, not, eqb, ltb, ◌⊎◌, List, get_or, Some, None, Decides, sym, refl, ap, ◌∙◌, subst, inl, inr, arith}
-use Rattle.std.proofs.lemmas.Bool.{cases_eq, cases_lt, both_ways, not-true, not-false, not_from_true, not_from_false, eq-eqb, eqb-true, lt-ltb, cond-true}
+use Rattle.std.proofs.Common.{◌≡◌, ℕ, ◌+◌, ◌-◌, ◌*◌, ◌/◌, ◌%◌, ◌<◌, ◌≤◌, true, false, not, ltb, ◌⊎◌, List, get_or, Some, None, Option, is_some, Bool, MatchOption, Decides, sym, refl, ap, ◌∙◌, inl, inr, arith}
+use Rattle.std.proofs.lemmas.Bool.{cases_eq, both_ways, not-true, not-false, not_from_true, not_from_false, eq-eqb, eqb-true, lt-ltb, cond-true}
 use Rattle.grounds.proofs.First.{first_is, first_none, first_miss}
 use Rattle.bits.specs.Bit.{bit, lowest_bit}
 use Rattle.bits.proofs.Digits.{bit_zero, bit_not, bit_lowest}
@@ -15,6 +15,15 @@ module _ (m : List ℕ) (at : ℕ) where
   in_full_word : (v : ℕ) → get_or m (unit_at at v) 0 ≡ full_word → unit_bit m at v ≡ true
   unfolding unit_bit
   in_full_word v e = ap (λ (w : ℕ). bit w (v % 64)) e ∙ bit_full (v % 64) (omega arith)
+
+  -- what a search over the four words finds
+  pub open_found : (r : Option ℕ) →
+      MatchOption r ((i : ℕ) → 0 ≤ i → i < unit_words → get_or m (at + i) 0 ≡ full_word)
+      (λ i. (0 ≤ i) × (i < unit_words) × (get_or m (at + i) 0 < full_word) × ((j : ℕ) → 0 ≤ j → j < i → get_or m (at + j) 0 ≡ full_word)) →
+      MatchOption r (FirstOpen m at unit_words) (λ i. (i < unit_words) × FirstOpen m at i)
+  open_found None none = record { within = omega arith; before = λ j near. none j (omega arith) near; here = λ near. absurd (omega arith) }
+  open_found (Some i) (low, near, here, before) =
+      (near, record { within = omega arith; before = λ j under. before j (omega arith) under; here = λ _. here })
 
   -- where no word has a clear bit, all units are taken
   pub none_open : FirstOpen m at unit_words → AllTaken m at
@@ -77,14 +86,12 @@ module _ (m : List ℕ) (at : ℕ) where
   full_tells = (λ is. first_all (eqb-true (first_free m at) units is), λ all. eq-eqb (first_free m at) units (all_first all))
 
   -- whether no word has a clear bit tells whether all units are taken
-  pub open_tells : (i : ℕ) → FirstOpen m at i → Decides (eqb i unit_words) (AllTaken m at)
-  open_tells i o = go (cases_lt i unit_words)
-    where
-      go : (i < unit_words) ⊎ (unit_words ≤ i) → Decides (eqb i unit_words) (AllTaken m at)
-      go (inl near) =
-          let low = open_lowest i o near in
-          let u = 64 * i + lowest_bit (full_word - get_or m (at + i) 0) in
-          (λ is. absurd (omega (arith, eqb-true i unit_words is)), λ all. absurd (both_ways (unit_bit m at u) low.here (all u low.within)))
-      go (inr past) =
-          let e : i ≡ unit_words = omega (arith, o.within) in
-          (λ is. none_open (subst (FirstOpen m at) e o), λ all. eq-eqb i unit_words e)
+  pub open_tells : (r : Option ℕ) (b : Bool) → is_some r ≡ not b →
+      MatchOption r (FirstOpen m at unit_words) (λ i. (i < unit_words) × FirstOpen m at i) → Decides b (AllTaken m at)
+  open_tells None true e o = (λ _. none_open o, λ _. refl)
+  open_tells (Some i) false e (near, o) =
+      let low = open_lowest i o near in
+      let u = 64 * i + lowest_bit (full_word - get_or m (at + i) 0) in
+      (λ is. absurd (both_ways false refl is), λ all. absurd (both_ways (unit_bit m at u) low.here (all u low.within)))
+  open_tells None false e o = absurd (both_ways false refl e)
+  open_tells (Some i) true e o = absurd (both_ways true e refl)

@@ -9,7 +9,7 @@ use Rattle.units.specs.Units.{units, unit_words, unit_at, unit_bit, taken, relea
 
 -- ---- what is left
 
-set_fits : (m : List ℕ) (a w : ℕ) → w < 2 ^ 64 → ((b : ℕ) → get_or m b 0 < 2 ^ 64) → (b : ℕ) → get_or (set m a w) b 0 < 2 ^ 64
+pub set_fits : (m : List ℕ) (a w : ℕ) → w < 2 ^ 64 → ((b : ℕ) → get_or m b 0 < 2 ^ 64) → (b : ℕ) → get_or (set m a w) b 0 < 2 ^ 64
 set_fits m a w small fits b = go (cases_eq b a) (cases_lt a (length m))
   where
     go : (b ≡ a) ⊎ (b ≡ a → ⊥) → (a < length m) ⊎ (length m ≤ a) → get_or (set m a w) b 0 < 2 ^ 64

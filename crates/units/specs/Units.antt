@@ -8,6 +8,7 @@
 --     first_free m at         the lowest unit that is free, and `units` where all are taken
 --     lowest_free, full       the same as an answer; whether all are taken
 --     Rest                    what a change of a page's words leaves: the words outside, the length, and that words fit
+--     BitsAfter               what the bits of a page's units are after a change
 --     AllTaken                that every unit is taken
 --     LowestFree, FreeOf      what holds of the lowest unit that is free; the same of an answer
 --     FirstOpen               what holds of the first of the four words that has a clear bit, and of 4 where none has one
@@ -65,6 +66,10 @@ pub record Rest (at : ℕ) (m n : List ℕ) : Type 0 where
   pub outside : (a : ℕ) → (at ≤ a → a < at + unit_words → ⊥) → slice_index n a ≡ slice_index m a
   pub long : length n ≡ length m
   pub fits : ((a : ℕ) → slice_index m a < 2 ^ 64) → (a : ℕ) → slice_index n a < 2 ^ 64
+
+-- the bits of the page's units are `bit` after the change, where memory has them
+abbrev pub BitsAfter : ℕ → (ℕ → Bool) → List ℕ → List ℕ → Type 0
+BitsAfter at bit m n = at + unit_words ≤ length m → (v : ℕ) → v < units → unit_bit n at v ≡ bit v
 
 -- ---- what the answers tell
 

@@ -1,16 +1,19 @@
 // Units taken, copied and released, and the lowest free one asked for, in memory that has room for two pages.
-use crate::{copy, is_full, is_taken, lowest_free, release, take};
+use crate::Units;
+use crate::unit::Unit;
 
 #[test]
 fn lowest_unit(rt: HostRuntime) {
     let mut memory = [u64::MAX; 9];
-    assert!(rt; is_full(&memory, 1));
-    release(&mut memory, 1, 200);
-    release(&mut memory, 1, 70);
-    copy(&mut memory, 1, 5);
-    assert_eq!(rt; lowest_free(&memory, 5), Some(70));
-    take(&mut memory, 5, 70);
-    assert!(rt; is_taken(&memory, 5, 70));
-    assert_eq!(rt; lowest_free(&memory, 5), Some(200));
-    assert_eq!(rt; lowest_free(&memory, 1), Some(70));
+    let one = Units { at: 1 };
+    let other = Units { at: 5 };
+    assert!(rt; one.is_full(&memory));
+    one.release(&mut memory, Unit::new(200));
+    one.release(&mut memory, Unit::new(70));
+    other.copy_from(&mut memory, one);
+    assert_eq!(rt; other.lowest_free(&memory), Some(Unit::new(70)));
+    other.take(&mut memory, Unit::new(70));
+    assert!(rt; other.is_taken(&memory, Unit::new(70)));
+    assert_eq!(rt; other.lowest_free(&memory), Some(Unit::new(200)));
+    assert_eq!(rt; one.lowest_free(&memory), Some(Unit::new(70)));
 }

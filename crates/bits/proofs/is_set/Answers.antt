@@ -5,4 +5,4 @@ use Rattle.bits.proofs.is_set.Goals as goal
 
 pub returns : goal.returns
 unfolding bit
-returns c = ap (λ (n : ℕ). eqb n 1) (and_mask (c.args.word / 2 ^ c.args.k) 1)
+returns c = rw c.number.ensures.value (ap (λ (n : ℕ). eqb n 1) (and_mask (c.args.word / 2 ^ c.args.k) 1))

@@ -1,14 +1,19 @@
-use Rattle.std.proofs.Common.{◌≡◌, ℕ, ◌*◌, ◌%◌, ◌^◌, ap, ◌∙◌}
+use Rattle.std.proofs.Common.{◌≡◌, ℕ, ◌*◌, ◌%◌, ◌^◌, ap, ◌∙◌, arith, ◌<◌}
 use lib.Bits.{bit_or}
 use Rattle.std.proofs.lemmas.Nat.{one_shl}
 use Rattle.bits.specs.Bit.{bit, with_bit, word_bits}
 use Rattle.bits.proofs.Digits.{bit_with}
 use Rattle.bits.proofs.with_set.Goals as goal
 
-pub returns : goal.returns
+value : (w k : ℕ) → k < word_bits → bit_or w ((1 * 2 ^ k) % 2 ^ word_bits) ≡ with_bit w k
 unfolding with_bit
-returns c =
-    let w = c.args.word in
-    let k = c.args.k in
-    let value : bit_or w ((1 * 2 ^ k) % 2 ^ word_bits) ≡ with_bit w k = ap (bit_or w) (one_shl k word_bits c.requires) in
-    record { value = value; bits = λ j. ap (λ (x : ℕ). bit x j) value ∙ bit_with w k j }
+value w k near = ap (bit_or w) (one_shl k word_bits near)
+
+pub returns-clause-value : goal.returns-clause-value
+returns-clause-value c = rw c.number.ensures.value (value c.args.word c.args.k (omega (arith, c.number.ensures)))
+
+pub returns-clause-bits : goal.returns-clause-bits
+returns-clause-bits c =
+    let near : c.args.k < word_bits = omega (arith, c.number.ensures) in
+    rw c.number.ensures.value
+    (λ j. ap (λ (x : ℕ). bit x j) (value c.args.word c.args.k near) ∙ bit_with c.args.word c.args.k j)

@@ -1,19 +1,9 @@
-use Rattle.std.proofs.Common.{◌≡◌, ◌*◌, length, ap, ◌∙◌, arith}
-use Rattle.std.proofs.lemmas.List.{take_rest}
-use Rattle.codec.specs.Bytes.{number_length, number_of}
-use Rattle.codec.proofs.Answers.{sixteen_read}
+use Rattle.std.proofs.Common.{◌∙◌}
+use Rattle.grounds.specs.Events.{answer_kind_number}
+use Rattle.codec.proofs.Answers.{none_goes_by, unknown_answer}
 use Rattle.codec.proofs.answer.tagged.Goals as goal
 
-pub returns : goal.returns
-returns c =
-    let long : length c.args.rest.now ≡ 2 * number_length = omega arith in
-    sixteen_read
-    c.args.tag
-    c.in_ok-first.first
-    c.in_ok-second.second
-    c.args.rest.now
-    c.read_with_two.result
-    long
-    c.in_ok-first.ensures.1
-    (c.in_ok-second.ensures.1 ∙ ap number_of (take_rest c.args.rest.now 8))
-    c.read_with_two.ensures
+pub returns-in_err-ok : goal.returns-in_err-ok
+returns-in_err-ok c =
+    let none = none_goes_by answer_kind_number c.args.tag c.try_from.result c.try_from.ensures c.in_err-ok.ensures.value in
+    c.from_residual.ensures ∙ unknown_answer c.args.tag c.args.rest.now none

@@ -3,4 +3,4 @@ use Rattle.ring.proofs.Held.{held_long}
 use Rattle.ring.proofs.Ring.count.Goals as goal
 
 pub returns : goal.returns
-returns c = record { words = c.word.ensures; long = c.word.ensures ∙ sym (held_long c.args.self c.args.memory.now) }
+returns c = record { words = c.word_after.ensures; long = c.word_after.ensures ∙ sym (held_long c.args.self c.args.memory.now) }

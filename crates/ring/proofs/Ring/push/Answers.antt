@@ -9,8 +9,8 @@ returns-then-count-self c =
     let m = c.args.memory.now in
     let v = c.args.value in
     let words
-    = pushed_is r m v c.word-newest.ensures c.count-count.ensures.words (omega arith) (omega arith) c.before-slot.ensures.value c.put.ensures c.put-then-count-self.ensures
-    c.put-then-count-self-2.ensures in
+    = pushed_is r m v c.word-newest.ensures c.count-count.ensures.words (omega arith) (omega arith) c.before-slot.ensures.value c.put_after.ensures c.put.ensures
+    c.put_after-then-count-self.ensures in
     record {
       words = words;
       newest = λ sound free. is_pushed r m sound v free words (omega arith) (omega arith);

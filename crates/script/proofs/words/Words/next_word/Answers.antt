@@ -1,30 +1,29 @@
-use Rattle.std.proofs.Common.{true, false, subst, arith, true-eqb, false-eqb}
-use Rattle.script.proofs.Cuts.{Run, run_cut, no_word, one_word}
+use Rattle.std.proofs.Common.{true, false, sym, ◌∙◌, arith, false-eqb, true-eqb}
+use Rattle.script.proofs.Cuts.{Run, gap, solid, run_cut, no_word, one_word}
 use Rattle.script.proofs.words.Words.next_word.Goals as goal
-use Rattle.script.proofs.words.Words.next_word.Goals.{After-run_length, After-run_length-2}
+use Rattle.script.proofs.words.Words.next_word.Goals.{After-gap_length, After-word_length}
 
 -- the blanks at the front
-gap : (c : After-run_length) → Run true c.args.self.now.rest.now c.run_length.result
-gap c =
-    let told = c.run_length.ensures in
-    subst (λ bs. Run true bs c.run_length.result) c.as_bytes.ensures.value (record { within = told.within; all = told.all; stops = told.stops })
+blanks : (c : After-gap_length) → Run true c.self.inside.rest.now c.gap_length.result
+blanks c = rw (c.gap_length.ensures, c.as_bytes.ensures.value) (gap _)
 
 -- the word after them
-run : (c : After-run_length-2) → Run false c.split_at.result.1.now c.run_length-2.result
-run c =
-    let told = c.run_length-2.ensures in
-    subst (λ bs. Run false bs c.run_length-2.result) c.as_bytes-2.ensures.value (record { within = told.within; all = told.all; stops = told.stops })
+word : (c : After-word_length) → Run false c.split_at.result.1.now c.word_length.result
+word c = rw (c.word_length.ensures, c.as_bytes-2.ensures.value) (solid _)
 
 pub split_at-requires : goal.split_at-requires
-split_at-requires c = run_cut true _ _ (rw c.as_bytes.ensures.value at c.as_bytes.ensures.utf8) (gap c)
+split_at-requires c = run_cut true _ _ (rw c.as_bytes.ensures.value at c.as_bytes.ensures.utf8) (blanks c)
+
+pub split_at-requires-2 : goal.split_at-requires-2
+split_at-requires-2 c = run_cut false _ _ (rw c.as_bytes-2.ensures.value at c.as_bytes-2.ensures.utf8) (word c)
 
 pub returns-then-is_empty : goal.returns-then-is_empty
 returns-then-is_empty c =
-    no_word _ _ _ _ _ _ (gap (goal.at.returns-then-is_empty c).After-run_length) c.split_at.ensures.back (run (goal.at.returns-then-is_empty c).After-run_length-2) c.split_at-2.ensures.front c.split_at-2.ensures.back
-    (true-eqb _ 0 c.if-is_empty.ensures)
+    let at = goal.at.returns-then-is_empty c in
+    sym c.self.view_is ∙ no_word _ _ _ _ _ _ (blanks at.After-gap_length) c.split_at.ensures.back (word at.After-word_length) c.split_at-2.ensures.front c.split_at-2.ensures.back (true-eqb _ 0 c.if-is_empty.ensures)
 
-pub returns-else-is_empty : goal.returns-else-is_empty
-returns-else-is_empty c =
+pub returns : goal.returns
+returns c =
+    let at = goal.at.returns c in
     let some = false-eqb _ 0 c.if-is_empty.ensures in
-    one_word _ _ _ _ _ _ (gap (goal.at.returns-else-is_empty c).After-run_length) c.split_at.ensures.back (run (goal.at.returns-else-is_empty c).After-run_length-2) c.split_at-2.ensures.front c.split_at-2.ensures.back
-    (omega (arith, some))
+    sym c.self.view_is ∙ one_word _ _ _ _ _ _ (blanks at.After-gap_length) c.split_at.ensures.back (word at.After-word_length) c.split_at-2.ensures.front c.split_at-2.ensures.back (omega (arith, some))

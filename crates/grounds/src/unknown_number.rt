@@ -1,0 +1,3 @@
+// A number that nothing goes by.
+#[derive(Clone, Copy, Debug, PartialEq, Eq)]
+pub struct UnknownNumber;

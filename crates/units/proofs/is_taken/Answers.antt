@@ -1,6 +1,0 @@
-use Rattle.units.specs.Units.{unit_bit}
-use Rattle.units.proofs.is_taken.Goals as goal
-
-pub returns : goal.returns
-unfolding unit_bit
-returns c = record { value = cc }
