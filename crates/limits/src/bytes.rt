@@ -7,8 +7,8 @@ ghost use Rattle.limits.specs.Bytes.{LimitsRead, LimitsTried, NumbersRead};
 use crate::limits::Limits;
 use codec::number::{NUMBER_LEN, number_of};
 
-// Reads all of the bytes as numbers into the front of the table, which the caller lends, since there is no heap, and tells how many there are. Where they are no whole number of these, or more than
-// the table has room for, it writes nothing.
+// Reads all of the bytes as numbers into the front of the table, and tells how many there are. Where they are no whole number of these, or more than
+// the table has room for, it writes nothing. The caller lends the table, since there is no heap.
 pub fn read_numbers(bytes: &[u8], table: &mut [u64]) -> Option<usize>
     ensures { NumbersRead bytes.now table.old table.new result }
 {
@@ -59,7 +59,8 @@ impl<'a> TryFrom<&'a [u64]> for Limits<'a> {
     }
 }
 
-// The same as an option: the limits that have these numbers, if there are any: there is a number for each but the classes, and those of the mark fit a byte.
+// The limits that have these numbers, if there are any: the same as the conversion above, which also tells why there are none. There is a number for
+// each but the classes, and those of the mark fit a byte.
 pub fn limits_from(numbers: &[u64]) -> Option<Limits<'_>>
     ensures { LimitsRead numbers.now result }
 {

@@ -34,6 +34,7 @@ pub fn barred(class: u64, word: usize) -> u64
     ensures { result ≡ barred class word }
 {
     let mut bits = 0;
+    // 0 stands for no class in memory, where each of the classes that there may be has a word.
     if class == 0 {
         return bits;
     }

@@ -19,6 +19,8 @@ use limits::lookup::class_number;
 use units::unit::UNIT_WORDS;
 use words::word;
 
+// This and the functions below are one, split by the parts of memory: all have the limits and the word's number, and a struct of the two would be made
+// for each word.
 fn limit_word(limits: &Limits<'_>, at: usize) -> u64
     ensures { (can : ℕ → Bool) → result ≡ limit_word (limits_in can limits.now) at }
 {

@@ -22,6 +22,7 @@ enum Stopped {
     Failed(io::Error),
 }
 
+// Written out, since a crate that derives it would be trusted besides.
 impl From<io::Error> for Stopped {
     fn from(error: io::Error) -> Stopped {
         Stopped::Failed(error)

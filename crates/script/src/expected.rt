@@ -57,6 +57,7 @@ impl From<AllocError> for Expected {
     }
 }
 
+// Written out for the same reason.
 impl<T: Drop> From<AllocFailed<T>> for Expected {
     ghost from_gives = { λ _ r. r ≡ Memory };
 

@@ -11,7 +11,7 @@ use grounds::numbers::MARK_LEN;
 use std::alloc::Global;
 use std::fmt;
 
-// It has the fields of the limits of a ground, and owns its classes, which those lend.
+// It has the fields of the limits of a ground, which lend their classes, and owns its own: a type for both would be generic in how they are held.
 #[derive(Debug, PartialEq, Eq, Drop)]
 pub struct Opening {
     pub pages: u64,

@@ -34,7 +34,7 @@ fn gap_length(bytes: &[u8]) -> usize
     bytes.iter().take_while(|byte| is_blank(**byte)).count()
 }
 
-// How many bytes come before the first blank.
+// How many bytes come before the first blank. The two differ in what they test: one for both would be passed a closure, and be longer.
 fn word_length(bytes: &[u8]) -> usize
     ensures { result ≡ position_or_len blank bytes.now }
 {
