@@ -2,5 +2,7 @@
 // No word of it is trusted: each function is told exactly for every memory.
 #![tactic(auto)]
 
+pub mod changes;
 pub mod class;
 pub mod plan;
+pub mod spots;
