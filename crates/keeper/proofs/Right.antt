@@ -1,15 +1,15 @@
 -- The keeper is right, takes the lowest place, and has enough memory; lengths that are not as said, and openings, are answered as they should be.
-use Rattle.std.proofs.Common.{◌≡◌, ℕ, ◌+◌, ◌*◌, ◌<◌, ◌≤◌, Bool, true, false, cond, ◌&&◌, eqb, ltb, leb, ◌⊎◌, List, ◌∷◌, ◌++◌, length, get_or, take, Some, Decides, refl, ap, ◌∙◌, inl, inr, arith, length-append, length-take}
+use Rattle.std.proofs.Common.{◌≡◌, ℕ, ◌*◌, ◌<◌, ◌≤◌, Bool, true, false, cond, ◌&&◌, eqb, ltb, leb, List, ◌∷◌, ◌++◌, length, get_or, take, Some, Decides, refl, ap, ◌∙◌, arith, length-append, length-take}
 use Rattle.std.proofs.ByRecursion.{All-weaker}
 use Rattle.std.proofs.lemmas.List.{get_or-take, get_or_append_left}
-use Rattle.std.proofs.lemmas.Bool.{cases_Bool, lt-ltb, ltb-true, eqb-true, eq-eqb, and_parts, and_from, cond-true, cond-false}
+use Rattle.std.proofs.lemmas.Bool.{false_from_ne_true, lt-ltb, ltb-true, eqb-true, eq-eqb, and_parts, and_from, cond-true, cond-false}
 use Rattle.std.proofs.lemmas.Bool.Decides.{nat_tests}
 use Rattle.grounds.specs.declared.event.Event.{Event}
 use Rattle.grounds.specs.declared.event.Event.TheVariants.{Get, Give, Size, Look, Garbled}
 use Rattle.grounds.specs.declared.answer.Refusal.{Refusal}
 use Rattle.grounds.specs.declared.answer.Refusal.TheVariants.{NoEvent, OutOfRange}
 use Rattle.grounds.specs.declared.answer.Answer.TheVariants.{Refused}
-use Rattle.grounds.specs.Numbers.{page, mark_length, most_pages, most_classes, most_rests, byte, word, page_words, rest_words, fixed_words}
+use Rattle.grounds.specs.Numbers.{page, mark_length, most_pages, most_classes, most_rests, byte, word}
 use Rattle.grounds.specs.Lists.{every, all_below}
 use Rattle.grounds.specs.Blocks.{Limits, ground_size, memory_words}
 use Rattle.grounds.specs.Events.{readable}
@@ -23,7 +23,8 @@ use Rattle.table.specs.Answers.{table_turned_by}
 use Rattle.table.proofs.Keeping.{standing_right, standing_lowest, standing_memory}
 use Rattle.layout.specs.Layout.{pages_at, rests_at}
 use Rattle.opening.specs.Opening.{opened}
-use Rattle.book.specs.Plan.{plan_of, numbers_good, lengths_good, plan_good}
+use Rattle.book.specs.Plan.{plan_good}
+use Rattle.book.proofs.Plans.{good_parts}
 use Rattle.holds.proofs.AtFirst.{opened_holds, new_small}
 use Rattle.keeper.specs.Outcomes.{Outcome, by_plan, outcome}
 use Rattle.keeper.specs.Keeper.{limits_good, may_open, keeper}
@@ -80,15 +81,6 @@ lengths : (l : Limits) (t : Table) (m : List ℕ) → GoodLimits thin l → Held
 lengths l t m good held =
     record { long = held.holds.parts.long; pages = held.holds.parts.header.pages; rests = held.holds.parts.header.rests }
 
--- memory and ground are as long as a plan that is gone by says
-plan_long : (m : List ℕ) (k : ℕ) → plan_good m k ≡ true →
-    (length m ≡ page_words * get_or m pages_at 0 + (rest_words * get_or m rests_at 0 + fixed_words)) × (k ≡ get_or m pages_at 0 * page)
-unfolding plan_good
-plan_long m k is =
-    let both = and_parts (numbers_good (plan_of m)) (lengths_good (plan_of m) (length m) k) is in
-    let two = and_parts (eqb (length m) _) (eqb k (get_or m pages_at 0 * page)) both.1 in
-    (eqb-true (length m) _ two.0, eqb-true k (get_or m pages_at 0 * page) two.1)
-
 kept_away : (m g : List ℕ) (e : Event) (r : Refusal) → outcome m g e ≡ record { answer = Refused r (place_of e); memory = m; ground = g } → TurnedAway keeper m g e r
 kept_away m g e r is =
     record { told = ap (λ (o : Outcome). o.answer) is; memory_kept = ap (λ (o : Outcome). o.memory) is; ground_kept = ap (λ (o : Outcome). o.ground) is }
@@ -103,30 +95,23 @@ no_plan m g Look none = kept_away m g Look OutOfRange (cond-false _ _ _ none)
 no_plan m g (Garbled k) none = kept_away m g (Garbled k) NoEvent refl
 
 -- no plan is gone by where it would have another length
-not_good : (m : List ℕ) (k : ℕ) → (plan_good m k ≡ true → ⊥) → plan_good m k ≡ false
-not_good m k never = go (cases_Bool (plan_good m k))
-  where
-    go : (plan_good m k ≡ true) ⊎ (plan_good m k ≡ false) → plan_good m k ≡ false
-    go (inl is) = absurd (never is)
-    go (inr none) = none
-
 module _ (l : Limits) (m : List ℕ) (h : Lengths l m) where
   other_ground : (g : List ℕ) → (length g ≡ ground_size l → ⊥) → plan_good m (length g) ≡ false
-  other_ground g other = not_good m (length g) (λ is. other ((plan_long m (length g) is).1 ∙ ap (λ (p : ℕ). p * page) h.pages))
+  other_ground g other = false_from_ne_true _ (λ is. other ((good_parts m (length g) is).ground_long ∙ ap (λ (p : ℕ). p * page) h.pages))
 
   less_memory : (k j : ℕ) → k < length m → plan_good (take k m) j ≡ false
   less_memory k j less =
-      not_good (take k m) j
+      false_from_ne_true _
       (λ is.
-      let long = (plan_long (take k m) j is).0 in
+      let long = (good_parts (take k m) j is).memory_long in
       let short : length (take k m) ≡ k = omega (arith, length-take k m) in
       omega (arith, get_or-take k m pages_at 0 (omega arith), get_or-take k m rests_at 0 (omega arith), h.pages, h.rests, h.long))
 
   more_memory : (x j : ℕ) (xs : List ℕ) → plan_good (m ++ (x ∷ xs)) j ≡ false
   more_memory x j xs =
-      not_good (m ++ (x ∷ xs)) j
+      false_from_ne_true _
       (λ is.
-      let long = (plan_long (m ++ (x ∷ xs)) j is).0 in
+      let long = (good_parts (m ++ (x ∷ xs)) j is).memory_long in
       let total = length-append m (x ∷ xs) in
       omega (arith, get_or_append_left m (x ∷ xs) 0 pages_at (omega (arith, h.long)), get_or_append_left m (x ∷ xs) 0 rests_at (omega (arith, h.long)), h.pages, h.rests, h.long))
 
@@ -199,9 +184,6 @@ may_open_right m g l cans = (told, tested)
 pub keeper_opening : RightOpening thin keeper
 keeper_opening m g l cans = (
   (λ may. let is = (may_open_right m g l cans).1 may in (cond-true _ _ _ is, cond-true _ _ _ is)),
-  (λ cannot. let is = may_not cannot (cases_Bool (may_open m g l)) in (cond-false _ _ _ is, cond-false _ _ _ is)),
+  (λ cannot.
+      let is = false_from_ne_true (may_open m g l) (λ may. cannot ((may_open_right m g l cans).0 may)) in (cond-false _ _ _ is, cond-false _ _ _ is)),
 )
-  where
-    may_not : (MayOpen thin m g l → ⊥) → (may_open m g l ≡ true) ⊎ (may_open m g l ≡ false) → may_open m g l ≡ false
-    may_not cannot (inl is) = absurd (cannot ((may_open_right m g l cans).0 is))
-    may_not cannot (inr none) = none
