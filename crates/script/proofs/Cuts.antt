@@ -20,7 +20,7 @@ code_before (x ∷ xs) ys none =
     cond-false (eqb x 35) [] (x ∷ code (xs ++ (35 ∷ ys))) (ne_eqb x 35 (none 0 (omega arith))) ∙ ap (λ l. x ∷ l) (code_before xs ys (λ i h. none (suc i) (omega arith)))
 
 -- blanks at the front are passed over
-past_blanks : (n : ℕ) (bs : List ℕ) → n ≤ length bs → ((i : ℕ) → i < n → blank (get_or bs i 0) ≡ true) → words bs ≡ words (drop n bs)
+pub past_blanks : (n : ℕ) (bs : List ℕ) → n ≤ length bs → ((i : ℕ) → i < n → blank (get_or bs i 0) ≡ true) → words bs ≡ words (drop n bs)
 past_blanks zero bs within all = refl
 past_blanks (suc n) [] within all = refl
 past_blanks (suc n) (b ∷ bs) within all =
@@ -73,6 +73,12 @@ first_word n bs run =
     through [] n bs run.within run.all
     ∙ ended (take n bs) (drop n bs) (λ more. ap blank (first_at n bs) ∙ run.stops (omega (arith, length-drop n bs)))
 
+-- behind the blanks at the front no blank comes first
+pub behind_blanks : (rest text : List ℕ) (n : ℕ) → Run true rest n → text ≡ drop n rest → 0 < length text → blank (get_or text 0 0) ≡ false
+behind_blanks rest text n gap from more =
+    let long = ap length from ∙ length-drop n rest in
+    ap blank (ap (λ l. get_or l 0 0) from ∙ first_at n rest) ∙ gap.stops (omega arith)
+
 -- past the blanks comes the text, which begins with the word
 module _ (rest text word after : List ℕ) (n k : ℕ) (gap : Run true rest n) (from : text ≡ drop n rest) (run : Run false text k) (front : word ≡ take k text) (back : after ≡ drop k text) where
   begun : words rest ≡ kept word (words after)
@@ -86,9 +92,8 @@ module _ (rest text word after : List ℕ) (n k : ℕ) (gap : Run true rest n) (
 
       empty : (0 < length text) ⊎ (length text ≤ 0) → length text ≡ 0
       empty (inl more) =
-          let long = ap length from ∙ length-drop n rest in
           let here = subst (λ i. i < length text → blank (get_or text i 0) ≡ true) short run.stops more in
-          let also = ap blank (ap (λ l. get_or l 0 0) from ∙ first_at n rest) ∙ gap.stops (omega arith) in
+          let also = behind_blanks rest text n gap from more in
           let clash : true ≡ false = cc in absurd (cc)
       empty (inr none) = omega arith
 

@@ -6,7 +6,7 @@
 --     kept w ws             w and then ws; just ws where w is empty
 --     left w                the words that are still to be taken
 use Rattle.std.specs.Prelude.{ℕ, Bool, cond, ◌||◌, List, [], ◌∷◌, ◌++◌, ◌==◌}
-use Rattle.script.specs.declared.words.Words.TheInside.{Inside}
+use Rattle.script.specs.declared.words.Words.{Words}
 
 abbrev pub blank : ℕ → Bool
 blank b = b == 32 || b == 9
@@ -26,5 +26,5 @@ words_after w (b ∷ bs) = cond (blank b) (kept w (words_after [] bs)) (words_af
 abbrev pub words : List ℕ → List (List ℕ)
 words bs = words_after [] bs
 
-abbrev pub left : Inside → List (List ℕ)
+abbrev pub left : Words → List (List ℕ)
 left w = words w.rest.now

@@ -1,5 +1,6 @@
 // An event, read from the words of its line.
 ghost use Rattle.script.specs.Reading.{FitsEvent, Reads, event_words};
+ghost use Rattle.script.specs.Words.{left};
 ghost use Rattle.std.specs.Prelude.{◌∷◌};
 
 use crate::expected::Expected;
@@ -7,7 +8,7 @@ use crate::words::Words;
 use grounds::event::Event;
 
 pub fn read_event(command: &str, words: Words<'_>) -> Result<Event, Expected>
-    ensures { Reads FitsEvent event_words (command.now ∷ words.entry) result }
+    ensures { Reads FitsEvent event_words (command.now ∷ left words.entry) result }
 {
     match command {
         "get" => Ok(Event::Get(words.last_number()?)),

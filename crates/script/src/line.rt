@@ -1,7 +1,7 @@
 // A line of a script, its text and how it is read.
 ghost use Rattle.script.specs.Reading.{FitsEvent, FitsLine, Reads, SomeBelow, line_words};
 ghost use Rattle.script.specs.Texts.{line_text};
-ghost use Rattle.script.specs.Words.{code, words};
+ghost use Rattle.script.specs.Words.{code, left, words};
 ghost use Rattle.std.specs.Prelude.{◌≡◌, ◌∷◌, map, Some, codes, decimal, MatchResult};
 
 use crate::event::read_event;
@@ -45,7 +45,7 @@ impl fmt::Display for Line {
 
 // One byte or more, up to the end of the line.
 fn read_bytes(heap: Global, mut words: Words<'_>) -> Result<Vec<u8>, Expected>
-    ensures { Reads (λ v. SomeBelow 256 v.items) (λ v. map decimal v.items) words.entry result }
+    ensures { Reads (λ v. SomeBelow 256 v.items) (λ v. map decimal v.items) (left words.entry) result }
 {
     let bytes = words.take_numbers(heap)?;
     match words.next_word() {
@@ -56,7 +56,7 @@ fn read_bytes(heap: Global, mut words: Words<'_>) -> Result<Vec<u8>, Expected>
 
 // What is written where, read from the words after `write`.
 fn read_write(heap: Global, mut words: Words<'_>) -> Result<Line, Expected>
-    ensures { Reads FitsLine line_words (codes "write" ∷ words.entry) result }
+    ensures { Reads FitsLine line_words (codes "write" ∷ left words.entry) result }
 {
     let place = words.take()?;
     let bytes = read_bytes(heap, words)?;

@@ -2,6 +2,7 @@
 ghost use Rattle.std.specs.Prelude.{◌^◌, Some};
 ghost use Rattle.script.specs.Reading.{FitsOpening, Reads, SomeBelow, Takes, classes_words, opening_words};
 ghost use Rattle.script.specs.Texts.{opening_text};
+ghost use Rattle.script.specs.Words.{left};
 
 use crate::expected::Expected;
 use crate::keyword::Keyword;
@@ -40,7 +41,7 @@ impl fmt::Display for Opening {
 
 // One class or more, and the word that ends them.
 fn take_classes(heap: Global, words: &mut Words<'_>) -> Result<Vec<u64>, Expected>
-    ensures { Takes (λ v. SomeBelow (2 ^ 64) v.items) (λ v. classes_words v.items) words.old words.new result }
+    ensures { Takes (λ v. SomeBelow (2 ^ 64) v.items) (λ v. classes_words v.items) (left words.old) (left words.new) result }
 {
     let classes = words.take_numbers(heap)?;
     match words.next_word() {
@@ -51,7 +52,7 @@ fn take_classes(heap: Global, words: &mut Words<'_>) -> Result<Vec<u64>, Expecte
 
 // An opening, read from the words after `open`.
 pub fn read_opening(heap: Global, mut words: Words<'_>) -> Result<Opening, Expected>
-    ensures { Reads FitsOpening opening_words words.entry result }
+    ensures { Reads FitsOpening opening_words (left words.entry) result }
 {
     words.take_keyword(Keyword::Pages)?;
     let pages = words.take()?;

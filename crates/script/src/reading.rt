@@ -2,6 +2,7 @@
 ghost use Rattle.std.specs.Prelude.{◌≡◌, ◌^◌, ◌<◌, [], ◌∷◌, map, OnOk, MatchOption, decimal};
 ghost use Rattle.script.specs.Reading.{BeginsWithNoNumber, Reads, SomeBelow, Takes};
 ghost use Rattle.script.specs.Texts.{keyword_text};
+ghost use Rattle.script.specs.Words.{left};
 
 use crate::expected::Expected;
 use crate::keyword::Keyword;
@@ -12,25 +13,30 @@ use std::alloc::Global;
 impl Words<'_> {
     // Takes the next word, if it is such a number. Else all words are left.
     fn next_number<T: Decimal>(&mut self) -> Option<T>
-        ensures taken { MatchOption result (self.new ≡ self.old) (λ n. self.old ≡ decimal (T.value n) ∷ self.new) }
-        ensures fits { MatchOption result (BeginsWithNoNumber T.limit self.old) (λ n. T.value n < T.limit) }
+        ensures taken { MatchOption result (left self.new ≡ left self.old) (λ n. left self.old ≡ decimal (T.value n) ∷ left self.new) }
+        ensures fits { MatchOption result (BeginsWithNoNumber T.limit (left self.old)) (λ n. T.value n < T.limit) }
     {
-        let number = T::read(self.peek()?)?;
-        self.next_word();
+        self.skip_blanks();
+        let mut ahead = *self;
+        let number = T::read(ahead.front_word()?)?;
+        *self = ahead;
         Some(number)
     }
 
-    // Takes the next word, which is to be such a number.
+    // Takes the next word, which is to be such a number. The word is taken where it is none, too.
     pub fn take<T: Decimal>(&mut self) -> Result<T, Expected>
-        ensures { Takes (λ n. T.value n < T.limit) (λ n. decimal (T.value n) ∷ []) self.old self.new result }
+        ensures { Takes (λ n. T.value n < T.limit) (λ n. decimal (T.value n) ∷ []) (left self.old) (left self.new) result }
     {
-        self.next_number().ok_or(T::EXPECTED)
+        let Some(word) = self.next_word() else {
+            return Err(T::EXPECTED);
+        };
+        T::read(word).ok_or(T::EXPECTED)
     }
 
     // Takes one number or more: as many as come next.
     pub fn take_numbers<T: Decimal>(&mut self, heap: Global) -> Result<Vec<T>, Expected>
-        ensures taken { Takes (λ v. SomeBelow T.limit (map T.value v.items)) (λ v. map decimal (map T.value v.items)) self.old self.new result }
-        ensures all { OnOk result (BeginsWithNoNumber T.limit self.new) }
+        ensures taken { Takes (λ v. SomeBelow T.limit (map T.value v.items)) (λ v. map decimal (map T.value v.items)) (left self.old) (left self.new) result }
+        ensures all { OnOk result (BeginsWithNoNumber T.limit (left self.new)) }
     {
         let mut numbers = Vec::new(heap);
         while let Some(number) = self.next_number() {
@@ -43,7 +49,7 @@ impl Words<'_> {
     }
 
     pub fn take_keyword(&mut self, keyword: Keyword) -> Result<(), Expected>
-        ensures { Takes (λ _. Unit {0}) (λ _. keyword_text keyword ∷ []) self.old self.new result }
+        ensures { Takes (λ _. Unit {0}) (λ _. keyword_text keyword ∷ []) (left self.old) (left self.new) result }
     {
         match self.next_word() {
             Some(word) if word == keyword.text() => Ok(()),
@@ -53,7 +59,7 @@ impl Words<'_> {
 
     // Whether no word is left.
     pub fn end(mut self) -> Result<(), Expected>
-        ensures { Reads (λ _. Unit {0}) (λ _. []) self.entry result }
+        ensures { Reads (λ _. Unit {0}) (λ _. []) (left self.entry) result }
     {
         match self.next_word() {
             None => Ok(()),
@@ -63,7 +69,7 @@ impl Words<'_> {
 
     // The number that is all that is left.
     pub fn last_number(mut self) -> Result<u64, Expected>
-        ensures { Reads (λ n. n < 2 ^ 64) (λ n. decimal n ∷ []) self.entry result }
+        ensures { Reads (λ n. n < 2 ^ 64) (λ n. decimal n ∷ []) (left self.entry) result }
     {
         let last = self.take()?;
         self.end()?;

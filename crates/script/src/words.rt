@@ -1,24 +1,12 @@
 // The words of a line, taken from its front one by one. Blanks stand between them, and a comment ends them.
-ghost use Rattle.std.specs.Prelude.{◌≡◌, ℕ, List, [], ◌∷◌, MatchOption};
+ghost use Rattle.std.specs.Prelude.{◌≡◌, ℕ, ◌<◌, List, [], ◌∷◌, length, false, slice_index, MatchOption};
 ghost use Rattle.std.specs.List.{prefix_len, position_or_len};
-ghost use Rattle.script.specs.Words.{blank, code, words};
+ghost use Rattle.script.specs.Words.{blank, code, left, words};
 
-use std::marker::Model;
-
-// In a clause it is the list of the words that are left. A type with such a view and a lifetime can't be `Copy`.
-#[derive(Clone, Drop)]
+// Clauses speak of the words that are `left`. They are no view of an `impl Model`, since a type with that and a lifetime can't be `Copy`.
+#[derive(Clone, Copy)]
 pub struct Words<'a> {
     rest: &'a str,
-}
-
-impl<'a> Model for Words<'a> {
-    ghost use Rattle.std.specs.Prelude.{ℕ, List};
-
-    ghost Value = { List (List ℕ) };
-
-    ghost use Rattle.script.specs.Words.{left};
-
-    ghost view = { left };
 }
 
 fn is_blank(byte: u8) -> bool
@@ -53,7 +41,7 @@ fn before_comment(text: &str) -> &str
 
 impl<'a> Words<'a> {
     pub fn of(text: &'a str) -> Words<'a>
-        ensures { result ≡ words (code text.now) }
+        ensures { left result ≡ words (code text.now) }
     {
         Words {
             rest: before_comment(text),
@@ -62,22 +50,39 @@ impl<'a> Words<'a> {
 
     // The next word, which is left.
     pub fn peek(&self) -> Option<&'a str>
-        ensures { MatchOption result (self.now ≡ []) (λ w. (rest : List (List ℕ)) × (self.now ≡ w.now ∷ rest)) }
+        ensures { MatchOption result (left self.now ≡ []) (λ w. (rest : List (List ℕ)) × (left self.now ≡ w.now ∷ rest)) }
     {
-        let mut ahead = Words { rest: self.rest };
+        let mut ahead = *self;
         ahead.next_word()
     }
 
-    // Takes the next word.
-    pub fn next_word(&mut self) -> Option<&'a str>
-        ensures { MatchOption result (self.old ≡ []) (λ w. self.old ≡ w.now ∷ self.new) }
+    // Passes over the blanks at the front. All words are left.
+    pub(crate) fn skip_blanks(&mut self)
+        ensures same { left self.new ≡ left self.old }
+        ensures solid { 0 < length self.new.rest.now → blank (slice_index self.new.rest.now 0) ≡ false }
     {
         let (_, text) = self.rest.split_at(gap_length(self.rest.as_bytes()));
-        let (word, rest) = text.split_at(word_length(text.as_bytes()));
+        self.rest = text;
+    }
+
+    // Takes the next word, where no blank comes first.
+    pub(crate) fn front_word(&mut self) -> Option<&'a str>
+        requires { 0 < length self.now.rest.now → blank (slice_index self.now.rest.now 0) ≡ false }
+        ensures { MatchOption result (left self.old ≡ []) (λ w. left self.old ≡ w.now ∷ left self.new) }
+    {
+        let (word, rest) = self.rest.split_at(word_length(self.rest.as_bytes()));
         self.rest = rest;
         if word.is_empty() {
             return None;
         }
         Some(word)
+    }
+
+    // Takes the next word.
+    pub fn next_word(&mut self) -> Option<&'a str>
+        ensures { MatchOption result (left self.old ≡ []) (λ w. left self.old ≡ w.now ∷ left self.new) }
+    {
+        self.skip_blanks();
+        self.front_word()
     }
 }

@@ -6,6 +6,7 @@ use script::expected::Expected;
 use script::in_words::InWords;
 use script::keyword::Keyword;
 use script::line::{Line, read_back, read_line};
+use script::words::Words;
 use std::alloc::Global;
 use std::process::Abort;
 use std::test::Fail;
@@ -91,4 +92,17 @@ fn complains(rt: HostRuntime) -> Result<(), Fail> {
     let text = format!(in rt.alloc(); "{complaint}; {answer}")?;
     assert!(rt; text.as_str() == "a.txt:3: expected the word marks, in: open; refused 4 0");
     Ok(())
+}
+
+// The words of a line are a value that is copied: each copy takes words of its own. A word that is no number is taken, too.
+#[test]
+fn words_are_copied(rt: HostRuntime) {
+    let words = Words::of("x 5 6");
+    let mut ahead = words;
+    assert_eq!(rt; ahead.take::<u64>(), Err(Expected::Number));
+    assert_eq!(rt; ahead.take::<u64>(), Ok(5));
+    assert_eq!(rt; ahead.last_number(), Ok(6));
+    assert_eq!(rt; ahead.end(), Err(Expected::End));
+    assert_eq!(rt; words.peek(), Some("x"));
+    assert_eq!(rt; words.end(), Err(Expected::End));
 }

@@ -2,6 +2,7 @@
 use Rattle.std.proofs.Common.{◌≡◌, ℕ, List, ◌∷◌, ◌++◌, map, vec_items, codes, decimal, sym, ◌∙◌}
 use Rattle.script.specs.declared.opening.Opening.{Opening}
 use Rattle.script.specs.Reading.{FitsOpening, classes_words, opening_words}
+use Rattle.script.specs.Words.{left}
 use Rattle.script.proofs.Blamed.{reads_exit}
 use Rattle.script.proofs.Listed.{tails, same_after, no_first, no_second, no_third}
 use Rattle.script.proofs.opening.read_opening.Goals as goal
@@ -13,16 +14,16 @@ from_rests o = decimal o.rests ∷ codes "marks" ∷ map decimal o.marks
 abbrev from_classes : Opening → List (List ℕ)
 from_classes o = codes "classes" ∷ (classes_words (vec_items o.classes) ++ from_rests o)
 
-at_classes : (c : In_ok-pages) (o : Opening) → c.args.words ≡ opening_words o → c.take.new.self ≡ from_classes o
+at_classes : (c : In_ok-pages) (o : Opening) → left c.args.words ≡ opening_words o → left c.take.new.self ≡ from_classes o
 at_classes c o is = tails c.in_ok-pages.ensures.1 (tails c.in_ok-take_keyword.ensures.1 is)
 
-at_rests : (c : In_ok-classes) (o : Opening) → FitsOpening o → c.args.words ≡ opening_words o → c.take_classes.new.words ≡ from_rests o
+at_rests : (c : In_ok-classes) (o : Opening) → FitsOpening o → left c.args.words ≡ opening_words o → left c.take_classes.new.words ≡ from_rests o
 at_rests c o fits is =
     let took = c.in_ok-classes.ensures in
     same_after _ _ _ _ took.0.1 fits.classes.1
     (sym took.1 ∙ tails c.in_ok-take_keyword-2.ensures.1 (tails c.in_ok-pages.ensures.1 (tails c.in_ok-take_keyword.ensures.1 is)))
 
-at_marks : (c : In_ok-take_keyword-3) (o : Opening) → c.take_classes.new.words ≡ from_rests o → c.take_keyword-3.new.self ≡ map decimal o.marks
+at_marks : (c : In_ok-take_keyword-3) (o : Opening) → left c.take_classes.new.words ≡ from_rests o → left c.take_keyword-3.new.self ≡ map decimal o.marks
 at_marks c o is = tails c.in_ok-take_keyword-3.ensures.1 (tails c.in_ok-rests.ensures.1 is)
 
 pub returns-in_err-take_keyword : goal.returns-in_err-take_keyword
