@@ -5,14 +5,26 @@ use below::Below;
 use grounds::numbers::{MARK_LEN, MOST_CLASSES, PAGE};
 use layout::header::{CLASSES_AT, LOOKUP_AT};
 use limits::lookup::row_of;
+use std::marker::Model;
 use units::unit::UNITS;
 use words::word_after;
 
+// It has an `impl Model` of its own, for the same reason as `Plan`.
 #[derive(Clone, Copy)]
 pub struct Class {
     pub number: Below<MOST_CLASSES>,
     // how much its pieces take
     pub room: u64,
+}
+
+impl Model for Class {
+    ghost use Rattle.book.specs.Header.{ClassSaid};
+
+    ghost Value = { ClassSaid };
+
+    ghost view = { λ c. record { number = c.number; room = c.room } };
+
+    ghost inverse = { λ c. record { number = c.number; room = c.room } };
 }
 
 impl Class {

@@ -8,17 +8,29 @@ use grounds::numbers::{
 };
 use layout::header::{COUNT_AT, MARKS_AT, PAGES_AT, RESTS_AT};
 use layout::layout::Layout;
+use std::marker::Model;
 use words::word;
 
 // How many counts of classes there are, from none to the most.
 const COUNTS: usize = MOST_CLASSES + 1;
 
+// It has an `impl Model` of its own, since a struct that holds such structs and has none is moved where it is passed by value.
 #[derive(Clone, Copy)]
 pub struct Plan {
     pub layout: Layout,
     // how many classes there are
     pub classes: Below<COUNTS>,
     pub mark: [u8; MARK_LEN],
+}
+
+impl Model for Plan {
+    ghost use Rattle.book.specs.Header.{PlanSaid};
+
+    ghost Value = { PlanSaid };
+
+    ghost view = { λ x. record { layout = x.layout; classes = x.classes; mark = x.mark } };
+
+    ghost inverse = { λ x. record { layout = x.layout; classes = x.classes; mark = x.mark } };
 }
 
 // A byte of a mark, which is never 0.

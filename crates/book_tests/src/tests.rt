@@ -3,6 +3,7 @@ use book::changes::{rest, spoil, take};
 use book::class::Class;
 use book::plan::Plan;
 use book::spots::{lowest_spot, place_of, room_at, spot_at};
+use layout::spot::Spot;
 use limits::limits::Limits;
 use opening::open::open;
 use std::test::Fail;
@@ -18,6 +19,39 @@ const LIMITS: Limits<'static> = Limits {
     rests: 1,
     marks: [66, 99],
 };
+
+// The parts of a plan, a class and a spot that are passed by value.
+fn classes_of(plan: Plan) -> usize {
+    plan.classes.number()
+}
+
+fn room_of(class: Class) -> u64 {
+    class.room
+}
+
+fn unit_of(spot: Spot) -> usize {
+    spot.unit.number()
+}
+
+// Each is a value that is copied.
+#[test]
+fn are_copied(rt: HostRuntime) -> Result<(), Fail> {
+    let mut memory = [7; WORDS];
+    let _answer = open(&mut memory, &[0; BYTES], &LIMITS);
+    let Some(plan) = Plan::read(&memory, BYTES) else {
+        return Err(Fail::new("there is no plan"));
+    };
+    assert_eq!(rt; (classes_of(plan), classes_of(plan)), (2, 2));
+    let Some(class) = Class::of_size(&plan, &memory, 1000) else {
+        return Err(Fail::new("there is no class"));
+    };
+    assert_eq!(rt; (room_of(class), room_of(class)), (1024, 1024));
+    let Some(spot) = spot_at(&plan, 1024) else {
+        return Err(Fail::new("a piece may begin there"));
+    };
+    assert_eq!(rt; (unit_of(spot), unit_of(spot)), (64, 64));
+    Ok(())
+}
 
 // Takes the lowest place for a piece of so many bytes, and tells it.
 fn get(plan: &Plan, memory: &mut [u64], size: u64) -> Option<u64> {

@@ -4,13 +4,25 @@ ghost use Rattle.std.specs.Prelude.{◌≡◌, slice_index, slice_set};
 
 use crate::layout::{ASKED, page_at};
 use grounds::page::Page;
+use std::marker::Model;
 use units::unit::Unit;
 use words::{put, word};
 
+// It has an `impl Model` of its own, since a struct that holds such structs and has none is moved where it is passed by value.
 #[derive(Clone, Copy)]
 pub struct Spot {
     pub page: Page,
     pub unit: Unit,
+}
+
+impl Model for Spot {
+    ghost use Rattle.layout.specs.Places.{PageUnit};
+
+    ghost Value = { PageUnit };
+
+    ghost view = { λ x. record { page = x.page; unit = x.unit } };
+
+    ghost inverse = { λ x. record { page = x.page; unit = x.unit } };
 }
 
 // How much was asked for is no `Field`, since a page has one for each of its units.

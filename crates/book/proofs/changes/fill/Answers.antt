@@ -3,4 +3,4 @@ use Rattle.book.proofs.changes.fill.Goals as goal
 
 pub returns : goal.returns
 unfolding filled
-returns c = let at = c.units_at.ensures in let words = c.take.ensures.words in cc
+returns c = rw (← c.spot.view_is) (let at = c.units_at.ensures in let words = c.take.ensures.words in cc)

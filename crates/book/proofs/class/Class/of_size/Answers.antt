@@ -53,4 +53,4 @@ returns c =
     let number : c.word_after-number.result ≡ class_in x m c.args.size = cc in
     let pages = ap (λ (s : Sizes). s.pages) c.layout.view_is in
     let classes = c.number.ensures in
-    classed_is x m c.args.size (c.new.ensures ∙ number) (c.word_after-room.ensures ∙ ap (room_in m) (sym c.new.ensures)) (omega arith) (grind arith) (omega arith) (omega arith)
+    classed_is x m c.args.size (c.new.ensures ∙ number) (c.word_after-room.ensures ∙ ap (room_in m) (sym c.new.ensures)) (omega arith) (grind arith) (grind arith) (omega arith)
