@@ -1,5 +1,5 @@
 // What a line is made of, taken from the front of its words, or what was expected there.
-ghost use Rattle.std.specs.Prelude.{◌≡◌, ◌^◌, ◌<◌, [], ◌∷◌, map, OnOk, MatchOption, decimal};
+ghost use Rattle.std.specs.Prelude.{◌≡◌, ◌≢◌, ℕ, ◌^◌, ◌<◌, List, [], ◌∷◌, map, OnOk, OnErr, MatchOption, decimal};
 ghost use Rattle.script.specs.Reading.{BeginsWithNoNumber, Reads, SomeBelow, Takes};
 ghost use Rattle.script.specs.Texts.{keyword_text};
 ghost use Rattle.script.specs.Words.{left};
@@ -23,9 +23,10 @@ impl Words<'_> {
         Some(number)
     }
 
-    // Takes the next word, which is to be such a number. The word is taken where it is none, too.
+    // Takes the next word, which is to be such a number. A word that is none is taken, too.
     pub fn take<T: Decimal>(&mut self) -> Result<T, Expected>
-        ensures { Takes (λ n. T.value n < T.limit) (λ n. decimal (T.value n) ∷ []) (left self.old) (left self.new) result }
+        ensures takes { Takes (λ n. T.value n < T.limit) (λ n. decimal (T.value n) ∷ []) (left self.old) (left self.new) result }
+        ensures refused { OnErr result (left self.old ≢ [] → (word : List ℕ) × (left self.old ≡ word ∷ left self.new)) }
     {
         let Some(word) = self.next_word() else {
             return Err(T::EXPECTED);
